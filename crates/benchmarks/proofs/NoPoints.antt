@@ -1,7 +1,7 @@
 -- A core that stores no points and finishes no fences.
 use Rattle.std.proofs.Common.{◌≡◌, ℕ, List, [], ◌∷◌, refl, arith}
-use Rattle.ido_base.specs.declared.event.Event.{Event}
-use Rattle.ido_base.specs.Cores.{finished_fences, point_stores}
+use Rattle.machine_events.specs.declared.event.Event.{Event}
+use Rattle.machine_events.specs.Cores.{finished_fences, point_stores}
 use Rattle.benchmarks.specs.MovingCore.{moving}
 
 pub no_points : (hart m : ℕ) (events : List Event) → 0 ≡ point_stores moving m events hart

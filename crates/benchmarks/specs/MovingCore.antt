@@ -1,9 +1,9 @@
 -- A core whose four harts never stop. It represents nothing but that.
 use Rattle.std.specs.Prelude.{ℕ, false, nat_lt, if◌then◌else◌}
-use Rattle.ido_base.specs.declared.event.Event.{Event}
-use Rattle.ido_base.specs.declared.event.Event.TheVariants.{Step, Crash}
-use Rattle.ido_base.specs.declared.event.Reply.TheVariants.{Moved}
-use Rattle.ido_base.specs.Cores.{Behaviour}
+use Rattle.machine_events.specs.declared.event.Event.{Event}
+use Rattle.machine_events.specs.declared.event.Event.TheVariants.{Step, Crash}
+use Rattle.machine_events.specs.declared.event.Reply.TheVariants.{Moved}
+use Rattle.machine_events.specs.Cores.{Behaviour}
 
 abbrev pub moving : Behaviour ℕ
 moving = record {

@@ -1,6 +1,6 @@
 -- What a run of all seats of a board leaves.
 use Rattle.std.specs.Prelude.{◌≡◌, ℕ, ◌<◌, List, All, map}
-use Rattle.ido_base.specs.declared.event.Event.{Event}
+use Rattle.machine_events.specs.declared.event.Event.{Event}
 use Rattle.hart_board.specs.declared.journal.Entry.{Entry}
 use Rattle.hart_board.specs.BoardRule.{numbers_from}
 use Rattle.hart_board.specs.Journals.{IsLegal, events_of, made_by}

@@ -1,12 +1,12 @@
 //! A core of four harts that never stop, each event of which touches eight lines of memory.
 ghost use Rattle.std.specs.Prelude.{◌≡◌, ◌-◌, ◌≤◌, [], IfOk, map};
 ghost use Rattle.std.specs.Vec.{vec_capacity, vec_len};
-ghost use Rattle.ido_base.specs.Cores.{IsValid};
+ghost use Rattle.machine_events.specs.Cores.{IsValid};
 ghost use Rattle.benchmarks.specs.MovingCore.{event_of, moving, no_eviction};
 
-use ido_base::event::{Event, Reply};
-use ido_base::machine::Core;
 use ido_base::memory::OutOfMemory;
+use machine_events::event::{Event, Reply};
+use machine_events::machine::Core;
 use std::alloc::{AllocError, Global};
 
 /// Lines that an event touches.

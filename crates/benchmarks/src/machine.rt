@@ -3,10 +3,10 @@
 //! It makes 40 million events. On one core of an Intel Xeon at 2.5 GHz it takes 0.34 s, some 118 million events a second; an unverified simulator in C
 //! with the same bookkeeping takes 0.25 s.
 use anyhow::Error;
-use ido_base::event::Event;
-use ido_base::log::Log;
 use ido_machine::machine::Machine;
-use rv64_isa::object::Object;
+use log_schemes::log::Log;
+use machine_events::event::Event;
+use machine_model::object::Object;
 use std::alloc::{AllocError, Global};
 use std::time::Instant;
 

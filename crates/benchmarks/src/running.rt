@@ -8,7 +8,7 @@ ghost use Rattle.benchmarks.specs.WholeRuns.{HasRun};
 
 use hart_board::board::Board;
 use hart_board::seat::{Seat, Turn};
-use ido_base::machine::Core;
+use machine_events::machine::Core;
 use std::sync::Wait;
 use std::thread::{Threads, for_each_mut};
 

@@ -4,15 +4,15 @@ use Rattle.std.proofs.Common.{append_assoc, length-append, true}
 use Rattle.std.specs.Prelude.{ℤ, pos, negsuc, ◌≤ℤ◌}
 use Rattle.std.specs.List.{list_all}
 use Rattle.ido_base.specs.declared.limits.TheConstants.{MOST_THREADS}
-use Rattle.ido_base.specs.Layout.{log_of, point_at, slot_at, bank_bytes}
-use Rattle.ido_base.specs.declared.log.Log.{Log}
-use Rattle.ido_base.specs.declared.log.Log.TheVariants.{V2}
+use Rattle.log_schemes.specs.Layout.{log_of, point_at, slot_at, bank_bytes}
+use Rattle.log_schemes.specs.declared.log.Log.{Log}
+use Rattle.log_schemes.specs.declared.log.Log.TheVariants.{V2}
 use Rattle.rv64_isa.specs.declared.instr.Instr.{Instr}
 use Rattle.rv64_isa.specs.declared.instr.Instr.TheVariants.{Fence, Store, OpImmediate, Op}
 use Rattle.rv64_isa.specs.declared.instr.Operation.TheVariants.{Add}
 use Rattle.rv64_isa.specs.declared.instr.ImmediateOperation.TheVariants.{Xori}
 use Rattle.rv64_isa.specs.declared.instr.StoreKind.TheVariants.{Sd}
-use Rattle.rv64_isa.specs.Machine.{numbers_from}
+use Rattle.machine_model.specs.Machine.{numbers_from}
 use Rattle.rv64_isa.specs.Rows.{Effect, Stores, Cleans, Fences, read}
 use Rattle.rv64_isa.specs.Signed.{twos_complement}
 use Rattle.memory_layout.specs.Roles.{is_kept}

@@ -3,9 +3,9 @@ use Rattle.std.proofs.Common.{◌≡◌, ◌≢◌, ℕ, zero, suc, ◌+◌, ◌
 use Rattle.std.specs.Prelude.{slice_set}
 use Rattle.std.proofs.lemmas.List.{get_or-set_other}
 use Rattle.operator_code.proofs.Public.{read_other, read_same, length-changed}
-use Rattle.ido_base.specs.Layout.{log_of, bank_bytes}
-use Rattle.ido_base.specs.declared.log.Log.TheVariants.{V1, V2}
-use Rattle.ido_base.specs.declared.log.Log.{Log}
+use Rattle.log_schemes.specs.Layout.{log_of, bank_bytes}
+use Rattle.log_schemes.specs.declared.log.Log.TheVariants.{V1, V2}
+use Rattle.log_schemes.specs.declared.log.Log.{Log}
 use Rattle.rv64_isa.specs.declared.instr.Operation.TheVariants.{Srl, Xor}
 use Rattle.rv64_isa.specs.Rows.{read}
 use Rattle.rv64_isa.specs.Arithmetic.{result_of}

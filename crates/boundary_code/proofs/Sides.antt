@@ -3,8 +3,8 @@ use Rattle.std.proofs.Common.{◌≡◌, ℕ, ◌<◌, ◌^◌, ◌∙◌, List,
 use Rattle.std.specs.Prelude.{replicate}
 use Rattle.memory_layout.specs.Roles.{bank_offset}
 use Rattle.rv64_isa.specs.Rows.{read}
-use Rattle.ido_base.specs.declared.log.Log.{Log}
-use Rattle.ido_base.specs.declared.log.Log.TheVariants.{V1, V2}
+use Rattle.log_schemes.specs.declared.log.Log.{Log}
+use Rattle.log_schemes.specs.declared.log.Log.TheVariants.{V1, V2}
 use Rattle.boundary_code.specs.Boundaries.{IsOnSide}
 
 -- a thread begins on the first one

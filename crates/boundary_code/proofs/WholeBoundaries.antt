@@ -5,8 +5,8 @@ use Rattle.std.specs.Prelude.{slice_set, pos, negsuc, ◌≤ℤ◌}
 use Rattle.std.specs.List.{list_all}
 use Rattle.std.proofs.lemmas.List.{get_or-set_other}
 use Rattle.ido_base.specs.declared.limits.TheConstants.{MOST_THREADS}
-use Rattle.ido_base.specs.Layout.{log_of, bank_bytes, point_at, slot_at}
-use Rattle.ido_base.specs.declared.log.Log.{Log}
+use Rattle.log_schemes.specs.Layout.{log_of, bank_bytes, point_at, slot_at}
+use Rattle.log_schemes.specs.declared.log.Log.{Log}
 use Rattle.rv64_isa.specs.declared.instr.Instr.{Instr}
 use Rattle.rv64_isa.specs.declared.instr.Instr.TheVariants.{Fence}
 use Rattle.rv64_isa.specs.Rows.{Effect, Stores, Cleans, Fences, row, read}

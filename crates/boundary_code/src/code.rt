@@ -3,9 +3,9 @@ ghost use Rattle.std.specs.Prelude.{◌≡◌, ◌≢◌, ◌<◌, ◌≤◌, �
 ghost use Rattle.std.specs.Prelude.{[], map, filter, length, pos, negsuc, ◌≤ℤ◌, IsTrue, IfOk, OnOk};
 ghost use Rattle.std.specs.List.{All, list_all, list_any};
 ghost use Rattle.ido_base.specs.Locks.{locks_in};
-ghost use Rattle.ido_base.specs.declared.log.Log.TheVariants.{V1, V2};
+ghost use Rattle.log_schemes.specs.declared.log.Log.TheVariants.{V1, V2};
 ghost use Rattle.ido_base.specs.declared.limits.TheConstants.{MOST_THREADS};
-ghost use Rattle.rv64_isa.specs.Machine.{numbers_from};
+ghost use Rattle.machine_model.specs.Machine.{numbers_from};
 ghost use Rattle.rv64_isa.specs.Signed.{twos_complement};
 ghost use Rattle.memory_layout.specs.Roles.{is_kept};
 ghost use Rattle.boundary_code.specs.Boundaries.{HasEffects, HasOffset, KeepsRegisters, GiveNumbers, bank_lines, lines_in_use};
@@ -14,9 +14,9 @@ ghost use Rattle.boundary_code.specs.links.InstructionLists.{keep_slots, clean_l
 ghost use Rattle.boundary_code.specs.links.InstructionLists.{offset_bits, point, commit, bank_part, boundary_list};
 ghost use Rattle.boundary_code.specs.links.InstructionLists.{last_list};
 
-use ido_base::log::Log;
 use ido_base::memory::OutOfMemory;
-use memory_layout::log::{FIRST_BANK, LINE_SLOTS, SLOT_BYTES, log_of};
+use log_schemes::addresses::{FIRST_BANK, LINE_SLOTS, SLOT_BYTES, log_of};
+use log_schemes::log::Log;
 use operator_code::constant::constant;
 use operator_code::instructions::{add, auipc, immediate, sd, shift};
 use rv64_isa::field::Register;

@@ -1,11 +1,11 @@
 -- The abstract run's config, in the words of the machine's account: what is kept, what is now, and where all harts are settled.
 use Rattle.std.proofs.Common.{◌≡◌, inl, inr, ℕ, zero, suc, ◌<◌, [], ◌∷◌, ◌++◌, length, ap, ap₂, arith, sym, ◌∙◌, subst, true, ◌≢◌, ◌&&◌, ◌==◌}
 use Rattle.std.proofs.lemmas.Bool.{and_parts, eqb-true, cases_lt, true≢false}
-use Rattle.ido_base.specs.Layout.{point_at}
+use Rattle.log_schemes.specs.Layout.{point_at}
 use Rattle.ido_base.specs.Locks.{holds_none}
 use Rattle.c_tree.specs.Source.{State, after_from, is_between, runs_from}
-use Rattle.rv64_isa.specs.Machine.{World, are_settled, durable_point, is_settled, is_settled_hart, live_at, resume_of}
-use Rattle.rv64_isa.specs.Schedule.{Steps, schedules}
+use Rattle.machine_model.specs.Machine.{World, are_settled, durable_point, is_settled, is_settled_hart, live_at, resume_of}
+use Rattle.machine_model.specs.Schedule.{Steps, schedules}
 use Rattle.variable_words.specs.Variables.{durable_variables}
 use Rattle.variable_words.proofs.Public.{well_formed_placed, durable_are_memory}
 use Rattle.crash_simulation.specs.Systems.{System, IsSystem, flat_of, thread_count}

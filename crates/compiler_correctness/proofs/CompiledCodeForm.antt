@@ -11,7 +11,7 @@ use Rattle.code_runs.specs.CodeTraces.{Trace, Program, MarkedEnvironment, Meets,
 use Rattle.node_code.specs.Pieces.{boundary_observations}
 use Rattle.code_runs.specs.ComputingRuns.{LocalConfig, config}
 use Rattle.boundary_code.specs.Boundaries.{Boundary, IsOnSide}
-use Rattle.ido_base.specs.declared.log.Log.{Log}
+use Rattle.log_schemes.specs.declared.log.Log.{Log}
 use Rattle.ido_ints.specs.declared.kinds.Kind.{Kind}
 use Rattle.c_tree.specs.Flats as f
 use Rattle.c_tree.specs.LockNames.{Held, held_names, holds, lock_names}

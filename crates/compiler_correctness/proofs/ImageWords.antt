@@ -2,13 +2,13 @@
 use Rattle.std.proofs.Common.{◌≡◌, refl, ℕ, List, [], ◌∷◌, sym, subst, true, ◌≢◌, inl, inr, zero, suc, ◌*◌, ◌/◌, ◌<◌, ◌≤◌, length, map, drop, get_or, replicate}
 use Rattle.std.proofs.Common.{ap, ap₂, arith, ◌∙◌, Some, ◌+◌, ◌-◌, ◌++◌, take, slice_get}
 use Rattle.std.proofs.lemmas.Bool.{true≢false, cases_lt}
-use Rattle.ido_base.specs.declared.event.Event.{Event}
-use Rattle.rv64_isa.specs.declared.phase.Phase.{Phase}
-use Rattle.rv64_isa.specs.declared.phase.Phase.TheVariants.{Run}
+use Rattle.machine_events.specs.declared.event.Event.{Event}
+use Rattle.machine_model.specs.declared.phase.Phase.{Phase}
+use Rattle.machine_model.specs.declared.phase.Phase.TheVariants.{Run}
 use Rattle.rv64_isa.specs.Rows.{Effect, Stores}
-use Rattle.rv64_isa.specs.Machine.{Hart, World, after_event, after_events, happens, start_of}
-use Rattle.rv64_isa.proofs.Public.{after_start}
-use Rattle.rv64_isa.specs.Schedule.{is_running}
+use Rattle.machine_model.specs.Machine.{Hart, World, after_event, after_events, happens, start_of}
+use Rattle.machine_model.proofs.Public.{after_start}
+use Rattle.machine_model.specs.Schedule.{is_running}
 use Rattle.hart_runs.specs.Calls.{IsInPhase}
 use Rattle.log_states.specs.Machines.{IsNext}
 use Rattle.crash_simulation.specs.Systems.{System, IsSystem, flat_of, shapes_of}
@@ -19,11 +19,12 @@ use Rattle.crash_simulation.specs.InstructionSteps.{MayStore, FragmentsStep, Cor
 use Rattle.crash_simulation.proofs.Public.{own_by, runs_ready, start_simulates, next_store, not_there}
 use Rattle.std.proofs.lemmas.List.{get_or-map, get_or_past, length-map, length-drop, get_or_append_left, take-append-drop, drop-drop, get_or-drop}
 use Rattle.std.proofs.lemmas.List.{length-take-le, length-append, append_assoc}
-use Rattle.ido_base.specs.declared.log.Log.{Log}
+use Rattle.log_schemes.specs.declared.log.Log.{Log}
 use Rattle.ido_base.specs.declared.limits.TheConstants.{MOST_VARIABLE_BYTES, VARIABLE_WORDS}
-use Rattle.ido_base.specs.declared.event.Event.TheVariants.{Step, Evict, Crash, Start}
+use Rattle.machine_events.specs.declared.event.Event.TheVariants.{Step, Evict, Crash, Start}
 use Rattle.ido_base.specs.Words.{Word, Entry, word_of, word_at, durable_value, last_position}
-use Rattle.ido_base.specs.Layout.{log_words, byte_number, words_of_bytes, initial_words, end_from, word_count, spread_words}
+use Rattle.ido_base.specs.Layout.{byte_number, words_of_bytes, end_from, spread_words}
+use Rattle.log_schemes.specs.Layout.{log_words, initial_words, word_count}
 use Rattle.ido_base.specs.Growth.{IsPersisted, ArePersisted, AreEntries}
 use Rattle.ido_base.proofs.Public.{word_other, write_backs_raise, evictions_raise}
 use Rattle.ido_ints.specs.Kinds.{bytes_of}
@@ -31,7 +32,7 @@ use Rattle.c_tree.specs.WellFormed.{elements_in, shape_of}
 use Rattle.memory_layout.specs.Variables.{HaveRoom}
 use Rattle.variable_words.proofs.Public.{some_bytes, well_formed_placed, within_end, next_element, number_is, steps_work}
 use Rattle.variable_words.specs.MemoryEffects.{IsWork, Rests, Queues, WritesBack, Makes}
-use Rattle.rv64_isa.specs.Executables.{first_world}
+use Rattle.machine_model.specs.Executables.{first_world}
 use Rattle.flow_graph.proofs.Public.{get_cases}
 use Rattle.log_states.specs.Stages.{is_store}
 use Rattle.log_states.proofs.Public.{address_of, beyond_variables, word_of_log}

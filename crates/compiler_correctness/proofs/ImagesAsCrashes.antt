@@ -2,19 +2,19 @@
 use Rattle.std.proofs.Common.{◌≡◌, refl, ℕ, zero, suc, List, [], ◌∷◌, ◌++◌, length, map, sym, ◌∙◌, ap, ap₂, subst, Bool, true, false, replicate}
 use Rattle.std.specs.Prelude.{if◌then◌else◌}
 use Rattle.std.proofs.lemmas.List.{append-nil, append_assoc, length-set, length-replicate}
-use Rattle.rv64_isa.proofs.Public.{first_stays, log_stays, queues_stand, starts_simulate}
-use Rattle.ido_base.specs.declared.log.Log.{Log}
-use Rattle.ido_base.specs.declared.event.Event.{Event}
-use Rattle.ido_base.specs.declared.event.Event.TheVariants.{Step, Evict, Crash, Start}
+use Rattle.machine_model.proofs.Public.{first_stays, log_stays, queues_stand, starts_simulate}
+use Rattle.log_schemes.specs.declared.log.Log.{Log}
+use Rattle.machine_events.specs.declared.event.Event.{Event}
+use Rattle.machine_events.specs.declared.event.Event.TheVariants.{Step, Evict, Crash, Start}
 use Rattle.ido_base.specs.Words.{Word, last_position, durable_value}
 use Rattle.c_tree.specs.Source.{is_between}
 use Rattle.rv64_isa.specs.declared.object.Slot.{Slot}
-use Rattle.rv64_isa.specs.Executables.{first_world}
-use Rattle.rv64_isa.specs.Machine.{World, can_start, is_settled, start_of, after_crash_of, happens, after_event, after_events}
-use Rattle.rv64_isa.specs.Schedule.{Steps, HartSteps, no_steps, passes_mark, stores_point, with_begun, with_bound, with_kept, with_all_kept, with_step}
-use Rattle.rv64_isa.specs.Schedule.{HaveNoStart, begins_life, next_life}
-use Rattle.rv64_isa.specs.Schedule.{LifeSchedules, all_lives, kept_lives, only_life, schedules, steps_after, steps_along, first_steps}
-use Rattle.rv64_isa.specs.Frames.{IsWellFormedWorld}
+use Rattle.machine_model.specs.Executables.{first_world}
+use Rattle.machine_model.specs.Machine.{World, can_start, is_settled, start_of, after_crash_of, happens, after_event, after_events}
+use Rattle.machine_model.specs.Schedule.{Steps, HartSteps, no_steps, passes_mark, stores_point, with_begun, with_bound, with_kept, with_all_kept, with_step}
+use Rattle.machine_model.specs.Schedule.{HaveNoStart, begins_life, next_life}
+use Rattle.machine_model.specs.Schedule.{LifeSchedules, all_lives, kept_lives, only_life, schedules, steps_after, steps_along, first_steps}
+use Rattle.machine_model.specs.Frames.{IsWellFormedWorld}
 use Rattle.variable_words.specs.Variables.{durable_variables}
 use Rattle.log_states.specs.Logs.{point_in}
 use Rattle.crash_simulation.proofs.Public.{counted_by, count_same, mutexes_stay, worlds_join, steps_join}

@@ -1,16 +1,16 @@
 -- No kept step is lost, whatever happens.
 use Rattle.std.proofs.Common.{◌≡◌, refl, ℕ, zero, suc, List, [], ◌∷◌, ◌++◌, sym, ◌∙◌, ap, subst, length, append-nil, append_assoc, Bool, true, false}
 use Rattle.std.specs.Prelude.{if◌then◌else◌}
-use Rattle.ido_base.specs.declared.log.Log.{Log}
-use Rattle.ido_base.specs.declared.event.Event.{Event}
-use Rattle.ido_base.specs.declared.event.Event.TheVariants.{Step, Evict, Crash, Start}
+use Rattle.log_schemes.specs.declared.log.Log.{Log}
+use Rattle.machine_events.specs.declared.event.Event.{Event}
+use Rattle.machine_events.specs.declared.event.Event.TheVariants.{Step, Evict, Crash, Start}
 use Rattle.ido_base.specs.Words.{Word}
 use Rattle.rv64_isa.specs.declared.object.Slot.{Slot}
-use Rattle.rv64_isa.specs.Executables.{first_world}
-use Rattle.rv64_isa.specs.Machine.{World, after_event, can_start}
-use Rattle.rv64_isa.specs.Schedule.{Steps, begins_life, next_life, only_life, schedules, steps_along, steps_after, with_all_kept, with_step}
-use Rattle.rv64_isa.specs.Schedule.{passes_mark, stores_point, first_steps}
-use Rattle.rv64_isa.proofs.Public.{event_earlier}
+use Rattle.machine_model.specs.Executables.{first_world}
+use Rattle.machine_model.specs.Machine.{World, after_event, can_start}
+use Rattle.machine_model.specs.Schedule.{Steps, begins_life, next_life, only_life, schedules, steps_along, steps_after, with_all_kept, with_step}
+use Rattle.machine_model.specs.Schedule.{passes_mark, stores_point, first_steps}
+use Rattle.machine_model.proofs.Public.{event_earlier}
 use Rattle.crash_simulation.proofs.Public.{kept_same}
 use Rattle.compiler_correctness.specs.Compilation.{BeginsWith, BeginLives}
 use Rattle.compiler_correctness.specs.Laws.{KeptStepsGrow}

@@ -4,8 +4,8 @@ use Rattle.std.specs.Prelude.{if◌then◌else◌}
 use Rattle.c_tree.specs.Source.{State, after_from, runs_from}
 use Rattle.source_machine.specs.Lives.{after_lives, begun_after, runs_lives}
 use Rattle.source_machine.proofs.Public.{after_life, runs_life}
-use Rattle.rv64_isa.specs.Machine.{World}
-use Rattle.rv64_isa.specs.Schedule.{LifeSchedules, Steps}
+use Rattle.machine_model.specs.Machine.{World}
+use Rattle.machine_model.specs.Schedule.{LifeSchedules, Steps}
 use Rattle.crash_simulation.specs.Systems.{System, IsSystem, flat_of}
 use Rattle.crash_simulation.specs.AccountRelation.{Beginning, SimulatesLives, beginning_after, first_beginning, next_beginning}
 use Rattle.crash_simulation.proofs.Public.{begins_at, earlier_after, from_after, kept_after, lives_are}

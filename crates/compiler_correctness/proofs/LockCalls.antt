@@ -4,9 +4,9 @@ use Rattle.std.proofs.lemmas.Option.{none-some, same_Some}
 use Rattle.source_machine.specs.Mutexes.{locks}
 use Rattle.rv64_isa.specs.declared.instr.Instr.{Instr}
 use Rattle.rv64_isa.specs.declared.instr.Instr.TheVariants.{Ecall}
-use Rattle.rv64_isa.specs.declared.phase.Phase.TheVariants.{Run}
+use Rattle.machine_model.specs.declared.phase.Phase.TheVariants.{Run}
 use Rattle.rv64_isa.specs.Rows.{read, row}
-use Rattle.rv64_isa.specs.Machine.{Hart, World}
+use Rattle.machine_model.specs.Machine.{Hart, World}
 use Rattle.code_runs.specs.ComputingRuns.{LocalConfig, config}
 use Rattle.code_runs.specs.CodeTraces.{passed}
 use Rattle.hart_runs.specs.HartsOnRuns.{instr_at}

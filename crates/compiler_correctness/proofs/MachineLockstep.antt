@@ -4,19 +4,19 @@ use Rattle.std.proofs.Common.{slice_index_or, pos, append-nil}
 use Rattle.std.specs.Prelude.{if◌then◌else◌}
 use Rattle.std.proofs.lemmas.Bool.{true≢false}
 use Rattle.std.proofs.lemmas.Option.{none-some}
-use Rattle.ido_base.specs.declared.event.Event.{Event}
-use Rattle.ido_base.specs.declared.event.Event.TheVariants.{Step, Evict, Crash, Start}
+use Rattle.machine_events.specs.declared.event.Event.{Event}
+use Rattle.machine_events.specs.declared.event.Event.TheVariants.{Step, Evict, Crash, Start}
 use Rattle.ido_base.specs.Words.{last_position}
 use Rattle.c_tree.specs.Flats as f
 use Rattle.c_tree.specs.Source as m
 use Rattle.source_machine.specs.Mutexes.{unlocks}
 use Rattle.source_machine.proofs.Public.{sizes_stay, goes_on}
-use Rattle.rv64_isa.specs.Executables.{first_world}
-use Rattle.rv64_isa.specs.Frames.{IsWellFormedWorld}
-use Rattle.rv64_isa.specs.Machine.{World, Outcome, after_crash_of, after_event, after_events, can_start, happens}
-use Rattle.rv64_isa.specs.Schedule.{KeepsOn, Steps, next_life, only_life, passes_mark, stores_point, first_steps, with_step, steps_after, steps_along}
+use Rattle.machine_model.specs.Executables.{first_world}
+use Rattle.machine_model.specs.Frames.{IsWellFormedWorld}
+use Rattle.machine_model.specs.Machine.{World, Outcome, after_crash_of, after_event, after_events, can_start, happens}
+use Rattle.machine_model.specs.Schedule.{KeepsOn, Steps, next_life, only_life, passes_mark, stores_point, first_steps, with_step, steps_after, steps_along}
 use Rattle.rv64_isa.specs.declared.object.Slot.{Slot}
-use Rattle.rv64_isa.proofs.Public.{outcome_of, starts_by, steps_touch}
+use Rattle.machine_model.proofs.Public.{outcome_of, starts_by, steps_touch}
 use Rattle.recovery_semantics.specs.ElementHistories.{History, Memory, history_of, live_number}
 use Rattle.recovery_semantics.specs.Configs.{Config, Invariant, now}
 use Rattle.recovery_semantics.specs.Laws.{LastUnlocks}

@@ -4,18 +4,19 @@ use Rattle.std.proofs.Common.{Option, ◌==◌, filter}
 use Rattle.std.proofs.lemmas.Bool.{cases_eq, true≢false}
 use Rattle.std.proofs.lemmas.List.Elements.{filter-append}
 use Rattle.std.proofs.Math.ListN.{length-append}
-use Rattle.ido_base.specs.declared.log.Log.{Log}
-use Rattle.ido_base.specs.declared.event.Event.{Event}
-use Rattle.ido_base.specs.declared.event.Event.TheVariants.{Step, Evict, Crash, Start}
+use Rattle.log_schemes.specs.declared.log.Log.{Log}
+use Rattle.machine_events.specs.declared.event.Event.{Event}
+use Rattle.machine_events.specs.declared.event.Event.TheVariants.{Step, Evict, Crash, Start}
 use Rattle.ido_base.specs.Words.{Word, last_position, word_at}
-use Rattle.ido_base.specs.Layout.{word_number, point_at}
+use Rattle.ido_base.specs.Layout.{word_number}
+use Rattle.log_schemes.specs.Layout.{point_at}
 use Rattle.rv64_isa.specs.declared.object.Slot.{Slot}
-use Rattle.rv64_isa.specs.declared.phase.Phase.{Phase}
-use Rattle.rv64_isa.specs.declared.phase.Phase.TheVariants.{Done, Ended}
-use Rattle.rv64_isa.specs.Machine.{Hart, World, after_event, after_events, happens, has_stopped, phase_step, stepped}
-use Rattle.rv64_isa.specs.Frames.{IsWellFormedWorld}
-use Rattle.rv64_isa.specs.Schedule.{KeepsOn, Steps, with_begun, with_step, with_all_kept, steps_after, steps_along, passes_mark, stores_point}
-use Rattle.rv64_isa.proofs.Public.{queues_stand, steps_touch}
+use Rattle.machine_model.specs.declared.phase.Phase.{Phase}
+use Rattle.machine_model.specs.declared.phase.Phase.TheVariants.{Done, Ended}
+use Rattle.machine_model.specs.Machine.{Hart, World, after_event, after_events, happens, has_stopped, phase_step, stepped}
+use Rattle.machine_model.specs.Frames.{IsWellFormedWorld}
+use Rattle.machine_model.specs.Schedule.{KeepsOn, Steps, with_begun, with_step, with_all_kept, steps_after, steps_along, passes_mark, stores_point}
+use Rattle.machine_model.proofs.Public.{queues_stand, steps_touch}
 use Rattle.compiler_correctness.specs.Translations.{GoOn}
 use Rattle.compiler_correctness.specs.Delays.{is_active_step, active_steps, IsStopped, begun_by}
 use Rattle.crash_simulation.specs.ReleasedSections.{one_if}

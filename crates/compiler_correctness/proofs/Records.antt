@@ -3,9 +3,9 @@ use Rattle.std.proofs.Common.{◌≡◌, ◌≢◌, ◌⊎◌, inl, inr, ℕ, �
 use Rattle.std.proofs.Common.{length, slice_index_or, if◌then◌else◌, slice_get}
 use Rattle.std.specs.List.{Contains}
 use Rattle.std.proofs.lemmas.Bool.{cases_Bool, false_from_ne_true, true≢false}
-use Rattle.ido_base.specs.Layout.{point_at}
+use Rattle.log_schemes.specs.Layout.{point_at}
 use Rattle.code_runs.specs.CodeTraces.{Program}
-use Rattle.rv64_isa.specs.Machine.{World, durable_point, live_at, resume_of, Hart, record_of}
+use Rattle.machine_model.specs.Machine.{World, durable_point, live_at, resume_of, Hart, record_of}
 use Rattle.flow_graph.specs.Actions.{FlowState}
 use Rattle.log_states.specs.Logs.{Record, point_in, IsRecorded}
 use Rattle.log_states.specs.Stages.{is_committed}
@@ -25,7 +25,7 @@ use Rattle.ido_base.specs.Locks.{has_lock, holds_none}
 use Rattle.c_tree.specs.Source as m
 use Rattle.recovery_semantics.specs.Configs.{now}
 use Rattle.recovery_semantics.specs.Laws.{LastUnlocks, HasUnlocked}
-use Rattle.rv64_isa.specs.Schedule.{LifeSchedules, Steps, schedules}
+use Rattle.machine_model.specs.Schedule.{LifeSchedules, Steps, schedules}
 use Rattle.source_machine.specs.Mutexes.{locks}
 use Rattle.thread_runs.specs.Laws.{MarksPass}
 use Rattle.recovered_threads.specs.RecoveryStates.{Gathers}
@@ -33,11 +33,11 @@ use Rattle.recovered_threads.proofs.Public.{logs_have_locks, locks_are_held, rec
 use Rattle.crash_simulation.specs.AccountRelation.{SimulatesLives, MachinesResume, first_beginning}
 use Rattle.compiler_correctness.specs.Translations.{Translation, world, source, source_at}
 use Rattle.compiler_correctness.specs.Compilation.{ThreadHolds, HasJustUnlocked, HoldsAsThread, IsOn, IsOutside, HasEnded}
-use Rattle.rv64_isa.specs.Machine.{has_stopped}
+use Rattle.machine_model.specs.Machine.{has_stopped}
 use Rattle.compiler_correctness.specs.Laws.{translation_of, MachinesRecord, MachinesAreWhole}
 use Rattle.compiler_correctness.proofs.LockCalls.{takes_as}
-use Rattle.rv64_isa.specs.declared.phase.Phase.{Phase}
-use Rattle.rv64_isa.specs.declared.phase.Phase.TheVariants.{Done, Ended}
+use Rattle.machine_model.specs.declared.phase.Phase.{Phase}
+use Rattle.machine_model.specs.declared.phase.Phase.TheVariants.{Done, Ended}
 use Rattle.flow_graph.proofs.Public.{found_in}
 use Rattle.recovery_semantics.proofs.Public.{held_before}
 

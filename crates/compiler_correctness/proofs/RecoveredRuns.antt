@@ -1,7 +1,7 @@
 -- A machine that begins with words whose records describe an origin runs on, and leaves what the source leaves from there.
 use Rattle.std.proofs.Common.{◌≡◌, ◌++◌, length, ap, sym, ◌∙◌}
 use Rattle.c_tree.specs.Source.{State, is_between}
-use Rattle.rv64_isa.specs.Schedule.{LifeSchedules, first_steps, kept_lives}
+use Rattle.machine_model.specs.Schedule.{LifeSchedules, first_steps, kept_lives}
 use Rattle.thread_runs.specs.Laws.{FragmentsGoOn}
 use Rattle.crash_simulation.specs.Laws.{EventsStand, NoneIsStuck, TakesMove}
 use Rattle.crash_simulation.specs.InstructionSteps.{FragmentsStep, CoresStep}

@@ -1,19 +1,19 @@
 -- What a compiled program is held to, after whatever events: steps of all harts, evictions, crashes and starts in any order.
 use Rattle.std.specs.Prelude.{◌≡◌, ◌≢◌, ◌⊎◌, ◌↔◌, ℕ, ◌+◌, ◌<◌, ◌≤◌, List, [], ◌∷◌, ◌++◌, length, Contains, slice_get, Some, None, Bool, true, false}
 use Rattle.std.specs.Prelude.{not, ◌&&◌, ◌==◌, if◌then◌else◌}
-use Rattle.ido_base.specs.declared.event.Event.{Event}
-use Rattle.ido_base.specs.declared.event.Event.TheVariants.{Step}
-use Rattle.ido_base.specs.declared.event.Reply.TheVariants.{Moved, Stuck}
-use Rattle.ido_base.specs.declared.event.Cause.{Cause}
-use Rattle.ido_base.specs.Layout.{point_at}
+use Rattle.machine_events.specs.declared.event.Event.{Event}
+use Rattle.machine_events.specs.declared.event.Event.TheVariants.{Step}
+use Rattle.machine_events.specs.declared.event.Reply.TheVariants.{Moved, Stuck}
+use Rattle.machine_events.specs.declared.event.Cause.{Cause}
+use Rattle.log_schemes.specs.Layout.{point_at}
 use Rattle.ido_base.specs.Locks.{has_lock, holds_none}
 use Rattle.c_tree.specs.Source as m
 use Rattle.c_tree.specs.Source.{is_between}
 use Rattle.source_machine.specs.Mutexes.{locks}
-use Rattle.rv64_isa.specs.declared.phase.Phase.TheVariants.{Take, Run, Ended}
-use Rattle.rv64_isa.specs.Executables.{first_world}
-use Rattle.rv64_isa.specs.Machine.{World, Hart, has_stopped, after_event, reply_to, live_at, durable_point, resume_of, record_of, is_settled}
-use Rattle.rv64_isa.specs.Schedule.{LifeSchedules, all_lives, begins_life, schedules, released_count}
+use Rattle.machine_model.specs.declared.phase.Phase.TheVariants.{Take, Run, Ended}
+use Rattle.machine_model.specs.Executables.{first_world}
+use Rattle.machine_model.specs.Machine.{World, Hart, has_stopped, after_event, reply_to, live_at, durable_point, resume_of, record_of, is_settled}
+use Rattle.machine_model.specs.Schedule.{LifeSchedules, all_lives, begins_life, schedules, released_count}
 use Rattle.hart_runs.specs.Calls.{IsAtCall, lock_asked}
 use Rattle.recovery_semantics.specs.Laws.{LastUnlocks}
 use Rattle.variable_words.specs.Variables.{live_variables, durable_variables}

@@ -1,6 +1,6 @@
 -- What code is that does what its source does, whatever happens: all that is promised of compiled programs.
 use Rattle.std.specs.Prelude.{◌≡◌, List, false}
-use Rattle.ido_base.specs.declared.event.Event.{Event}
+use Rattle.machine_events.specs.declared.event.Event.{Event}
 use Rattle.compiler_correctness.specs.Translations.{Translation, world}
 use Rattle.compiler_correctness.specs.Compilation.{IsSettledAsKept, KeptScheduleGrows, AreSectionsKept, AreRecords, AreWhole, IsInStep, NeverStuck}
 use Rattle.compiler_correctness.specs.Forms.{HasForm}

@@ -1,14 +1,14 @@
 -- How soon a hart that executes instructions begins the next step of its thread.
 use Rattle.std.specs.Prelude.{◌≡◌, ◌⊎◌, ℕ, ◌+◌, ◌*◌, ◌<◌, ◌≤◌, List, [], ◌∷◌, ◌++◌, length, slice_get, Some, None, Bool, true, false, not, ◌==◌, ◌&&◌}
 use Rattle.std.specs.Prelude.{if◌then◌else◌, filter}
-use Rattle.ido_base.specs.declared.event.Event.{Event}
-use Rattle.ido_base.specs.declared.event.Event.TheVariants.{Step, Evict, Crash, Start}
-use Rattle.ido_base.specs.declared.event.Reply.{Reply}
-use Rattle.ido_base.specs.declared.event.Reply.TheVariants.{Moved, Drained, Waits, Barrier, Still, Stuck, Device}
+use Rattle.machine_events.specs.declared.event.Event.{Event}
+use Rattle.machine_events.specs.declared.event.Event.TheVariants.{Step, Evict, Crash, Start}
+use Rattle.machine_events.specs.declared.event.Reply.{Reply}
+use Rattle.machine_events.specs.declared.event.Reply.TheVariants.{Moved, Drained, Waits, Barrier, Still, Stuck, Device}
 use Rattle.rv64_isa.specs.declared.object.Slot.{Slot}
 use Rattle.rv64_isa.specs.Programs.{code_of}
-use Rattle.rv64_isa.specs.Machine.{Hart, World, after_event, has_stopped, reply_to}
-use Rattle.rv64_isa.specs.Schedule.{Steps, is_running}
+use Rattle.machine_model.specs.Machine.{Hart, World, after_event, has_stopped, reply_to}
+use Rattle.machine_model.specs.Schedule.{Steps, is_running}
 use Rattle.compiler_correctness.specs.Translations.{Translation, GoOn, world, steps}
 
 abbrev pub has_waited : Reply → Bool

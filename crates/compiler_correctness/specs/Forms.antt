@@ -34,7 +34,7 @@ use Rattle.thread_code.specs.Plans.{home_of_colour, language_of}
 use Rattle.expr_code.specs.declared.home.Home.{Home}
 use Rattle.expr_code.specs.declared.home.Home.TheVariants.{InRegister}
 use Rattle.expr_code.specs.EvaluationCode.{home_of, HomeCarries}
-use Rattle.ido_base.specs.declared.log.Log.TheVariants.{V1}
+use Rattle.log_schemes.specs.declared.log.Log.TheVariants.{V1}
 
 -- ---- The code of a thread's nodes
 

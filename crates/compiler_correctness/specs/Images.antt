@@ -1,12 +1,13 @@
 -- What a crash leaves of a machine, and runs that are begun from it.
 use Rattle.std.specs.Prelude.{◌≡◌, ℕ, ◌+◌, ◌*◌, ◌/◌, ◌<◌, ◌≤◌, List, ◌∷◌, ◌++◌, length, map, take, drop, true}
-use Rattle.ido_base.specs.declared.event.Event.{Event}
-use Rattle.ido_base.specs.declared.event.Event.TheVariants.{Crash}
+use Rattle.machine_events.specs.declared.event.Event.{Event}
+use Rattle.machine_events.specs.declared.event.Event.TheVariants.{Crash}
 use Rattle.ido_base.specs.Words.{durable_value, word_of, word_at}
-use Rattle.ido_base.specs.Layout.{variable_lines, log_words, spread_words}
+use Rattle.ido_base.specs.Layout.{variable_lines, spread_words}
+use Rattle.log_schemes.specs.Layout.{log_words}
 use Rattle.c_tree.specs.Source.{is_between}
-use Rattle.rv64_isa.specs.Machine.{World, after_crash_of, after_events, is_settled}
-use Rattle.rv64_isa.specs.Schedule.{HaveNoStart, LifeSchedules, Steps, all_lives, kept_lives, schedules, steps_along, first_steps}
+use Rattle.machine_model.specs.Machine.{World, after_crash_of, after_events, is_settled}
+use Rattle.machine_model.specs.Schedule.{HaveNoStart, LifeSchedules, Steps, all_lives, kept_lives, schedules, steps_along, first_steps}
 use Rattle.variable_words.specs.Variables.{durable_variables}
 use Rattle.compiler_correctness.specs.Translations.{Translation, world, steps, source, IsRunnable}
 use Rattle.compiler_correctness.specs.Compilation.{BeginLives}

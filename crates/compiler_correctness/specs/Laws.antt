@@ -1,6 +1,6 @@
 -- Laws of compiled programs, in the words of their readers.
 use Rattle.std.specs.Prelude.{◌≡◌, List, false}
-use Rattle.ido_base.specs.declared.event.Event.{Event}
+use Rattle.machine_events.specs.declared.event.Event.{Event}
 use Rattle.flow_graph.specs.Lowering.{lowered}
 use Rattle.flow_graph.specs.IdempotentCuts.{IsMinimal}
 use Rattle.region_cutter.specs.FewestCuts.{AreFewestCuts}

@@ -1,13 +1,13 @@
 -- What a compiler makes of a flat form, and what events make of that.
 use Rattle.std.specs.Prelude.{◌≡◌, ℕ, List, [], ◌∷◌, ◌++◌, length, slice_index_or, true}
-use Rattle.ido_base.specs.declared.event.Event.{Event}
+use Rattle.machine_events.specs.declared.event.Event.{Event}
 use Rattle.c_tree.specs.Flats as f
 use Rattle.c_tree.specs.Source as m
-use Rattle.rv64_isa.specs.declared.object.Object.{Object}
+use Rattle.machine_model.specs.declared.object.Object.{Object}
 use Rattle.rv64_isa.specs.declared.object.Marks.{Marks}
-use Rattle.rv64_isa.specs.Executables.{Executable, executable_of, first_world}
-use Rattle.rv64_isa.specs.Machine.{World, after_events}
-use Rattle.rv64_isa.specs.Schedule.{KeepsOn, Steps, LifeSchedules, only_life, steps_along, first_steps}
+use Rattle.machine_model.specs.Executables.{Executable, executable_of, first_world}
+use Rattle.machine_model.specs.Machine.{World, after_events}
+use Rattle.machine_model.specs.Schedule.{KeepsOn, Steps, LifeSchedules, only_life, steps_along, first_steps}
 use Rattle.source_machine.specs.Lives.{after_lives, runs_lives, begun_after}
 use Rattle.flow_graph.specs.declared.cuts.Cuts.{Cuts}
 use Rattle.flow_graph.specs.IdempotentCuts.{Boundaries, boundaries_of}

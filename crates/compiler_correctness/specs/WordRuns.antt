@@ -1,14 +1,14 @@
 -- A machine that begins with an image's words, whoever left them, and runs on.
 use Rattle.std.specs.Prelude.{◌≡◌, ◌≢◌, ◌⊎◌, ℕ, ◌<◌, ◌≤◌, List, [], ◌∷◌, ◌++◌, true}
-use Rattle.ido_base.specs.declared.event.Event.{Event}
-use Rattle.ido_base.specs.declared.event.Event.TheVariants.{Step}
-use Rattle.ido_base.specs.declared.event.Reply.TheVariants.{Moved, Stuck}
-use Rattle.ido_base.specs.declared.event.Cause.{Cause}
+use Rattle.machine_events.specs.declared.event.Event.{Event}
+use Rattle.machine_events.specs.declared.event.Event.TheVariants.{Step}
+use Rattle.machine_events.specs.declared.event.Reply.TheVariants.{Moved, Stuck}
+use Rattle.machine_events.specs.declared.event.Cause.{Cause}
 use Rattle.c_tree.specs.Source.{State, is_between}
 use Rattle.source_machine.specs.Lives.{after_lives, runs_lives}
-use Rattle.rv64_isa.specs.declared.phase.Phase.TheVariants.{Take}
-use Rattle.rv64_isa.specs.Machine.{is_settled, reply_to}
-use Rattle.rv64_isa.specs.Schedule.{LifeSchedules, all_lives, kept_lives}
+use Rattle.machine_model.specs.declared.phase.Phase.TheVariants.{Take}
+use Rattle.machine_model.specs.Machine.{is_settled, reply_to}
+use Rattle.machine_model.specs.Schedule.{LifeSchedules, all_lives, kept_lives}
 use Rattle.hart_runs.specs.Calls.{IsInPhase}
 use Rattle.variable_words.specs.Variables.{durable_variables}
 use Rattle.compiler_correctness.specs.Translations.{Translation, GoOn}

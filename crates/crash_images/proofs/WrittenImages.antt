@@ -10,8 +10,8 @@ use Rattle.std.specs.List.{flat_map, AllByRecursion}
 use Rattle.std.proofs.lemmas.List.Elements.{All-from_recursion}
 use Rattle.ido_base.specs.declared.memory.OutOfMemory.{OutOfMemory}
 use Rattle.ido_base.specs.declared.limits.TheConstants.{MOST_SOURCE_BYTES, VARIABLE_WORDS, MOST_STEPS}
-use Rattle.ido_base.specs.declared.log.Log.{Log}
-use Rattle.ido_base.specs.declared.log.Log.TheVariants.{V1, V2}
+use Rattle.log_schemes.specs.declared.log.Log.{Log}
+use Rattle.log_schemes.specs.declared.log.Log.TheVariants.{V1, V2}
 use Rattle.file_fields.specs.Numbers.{number, word, IsNumber}
 use Rattle.run_scripts.specs.Runs.{Run as SpelledRun, AreMerged, runs_of, schedule_of}
 use Rattle.run_scripts.specs.declared.runs.Run.{Run}

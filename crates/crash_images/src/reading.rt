@@ -20,7 +20,7 @@ use file_fields::reading::{
     Reader, bytes_at, magic_at, number_at, number_within, place_of, repeated, version_at, word_at,
 };
 use ido_base::limits::{MOST_SOURCE_BYTES, WORD_BYTES};
-use ido_base::log::Log;
+use log_schemes::log::Log;
 use run_scripts::runs::Run;
 use std::alloc::Global;
 

@@ -2,7 +2,7 @@
 ghost use Rattle.std.specs.Prelude.{◌≡◌, ◌≤◌};
 ghost use Rattle.crash_images.specs.Contents.{log_of, number_of, written_as};
 
-use ido_base::log::Log;
+use log_schemes::log::Log;
 
 /// The most lives: four bytes tell how many there are.
 pub const MOST_LIVES: u32 = 4_294_967_295;

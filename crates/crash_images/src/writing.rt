@@ -15,8 +15,8 @@ ghost use Rattle.crash_images.specs.ImageDecoder.{IsReadAs};
 use crate::version::written_as;
 use file_fields::writing::{put, put_number, put_words};
 use ido_base::limits::WORD_BYTES;
-use ido_base::log::Log;
 use ido_base::memory::OutOfMemory;
+use log_schemes::log::Log;
 use run_scripts::runs::{Run, runs_of};
 use std::alloc::Global;
 

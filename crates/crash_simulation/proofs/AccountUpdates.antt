@@ -10,7 +10,7 @@ use Rattle.crash_simulation.proofs.Common.{evictions_touch, MayMakeStore, IsWork
 use Rattle.crash_simulation.proofs.Common.{IsElsewhere, some_words, word_beside, IsInPhase, AbstractRun, IsCountedOf, IsAccountedOf, AreCounted, Beginning}
 use Rattle.crash_simulation.proofs.Common.{counted_steps, last_stored, is_bound, is_leaving, SaysSame, sections_kept, System, ThreadGhost}
 use Rattle.variable_words.specs.MemoryEffects.{Rests}
-use Rattle.rv64_isa.specs.Schedule as machine
+use Rattle.machine_model.specs.Schedule as machine
 use Rattle.crash_simulation.proofs.DisjointStores.{next_store}
 
 -- the hart, where it runs and its step completes an instruction

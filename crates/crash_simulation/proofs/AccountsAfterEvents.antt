@@ -11,9 +11,9 @@ use Rattle.crash_simulation.proofs.Common.{EventsStand, RunsSimulate, SectionsEn
 use Rattle.crash_simulation.proofs.Common.{IsReleasedOf, ended_in_machine, SectionsAreKept, SimulatesBut, Simulates, anybody, System, IsSystem, thread_count}
 use Rattle.crash_simulation.proofs.Common.{flat_of, ThreadGhost}
 use Rattle.std.specs.Prelude.{if◌then◌else◌}
-use Rattle.ido_base.specs.declared.event.Event.TheVariants.{Start}
+use Rattle.machine_events.specs.declared.event.Event.TheVariants.{Start}
 use Rattle.source_machine.specs.Lives.{end_lives, ends_life}
-use Rattle.rv64_isa.specs.Schedule.{KeepsOn, begins_life, released_along}
+use Rattle.machine_model.specs.Schedule.{KeepsOn, begins_life, released_along}
 use Rattle.crash_simulation.specs.AccountRelation.{SimulatesLives, beginning_after, next_beginning}
 use Rattle.crash_simulation.specs.ReleasedSections.{ended_by}
 use Rattle.crash_simulation.specs.InstructionSteps.{on_fragment, at_core}

@@ -11,7 +11,7 @@ use Rattle.crash_simulation.proofs.Common.{Gathers, same_there, same_or_other, h
 use Rattle.crash_simulation.proofs.Common.{counted_steps, last_stored, SimulatesCounted, first_beginning, is_bound, is_leaving, begins, OwnStep, Releases}
 use Rattle.crash_simulation.proofs.Common.{nothing_released, last_released, StepsOrStutters, with_ghost, IsRecoveredFrom, sections_kept, one_if, IsReleasedOf}
 use Rattle.crash_simulation.proofs.Common.{in_step, cut_off, Simulates, System, IsSystem, thread_count, flat_of, ThreadGhost}
-use Rattle.rv64_isa.specs.Schedule.{begins_life}
+use Rattle.machine_model.specs.Schedule.{begins_life}
 use Rattle.c_tree.specs.Source as m
 use Rattle.crash_simulation.proofs.LastReleases.{no_release, holders_stay_none, other_release, none_leaving}
 use Rattle.crash_simulation.proofs.RecordsAfterCrash.{left, left_kept}

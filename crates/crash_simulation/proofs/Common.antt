@@ -15,16 +15,17 @@ pub use Rattle.std.proofs.lemmas.List.{get_or-set_same, get_or-set_other, set-ge
 pub use Rattle.std.proofs.lemmas.List.Elements.{Contains-append_left, Contains-append_right}
 pub use Rattle.std.proofs.lemmas.Option.{none-some, same_Some, slice_get_within, cond_some, slice_get-map}
 pub use Rattle.ido_base.specs.Growth.{AreEntries, PersistsThrough, AreChanged}
-pub use Rattle.ido_base.specs.Layout.{byte_number, word_number, point_at, variable_at, log_words, variables_base, log_of, word_count}
+pub use Rattle.ido_base.specs.Layout.{byte_number, word_number, variable_at, variables_base}
+pub use Rattle.log_schemes.specs.Layout.{point_at, log_words, log_of, word_count}
 pub use Rattle.ido_base.specs.Locks.{holds_none, held_from}
 pub use Rattle.ido_base.specs.Words.{Word, Entry, last_position, word_at, loaded, durable_value, word_of}
-pub use Rattle.ido_base.specs.declared.event.Cause.{Cause}
-pub use Rattle.ido_base.specs.declared.event.Event.{Event}
-pub use Rattle.ido_base.specs.declared.event.Event.TheVariants.{Step, Evict, Crash}
-pub use Rattle.ido_base.specs.declared.event.Reply.{Reply}
-pub use Rattle.ido_base.specs.declared.event.Reply.TheVariants.{Moved, Still, Stuck, Waits, Barrier}
+pub use Rattle.machine_events.specs.declared.event.Cause.{Cause}
+pub use Rattle.machine_events.specs.declared.event.Event.{Event}
+pub use Rattle.machine_events.specs.declared.event.Event.TheVariants.{Step, Evict, Crash}
+pub use Rattle.machine_events.specs.declared.event.Reply.{Reply}
+pub use Rattle.machine_events.specs.declared.event.Reply.TheVariants.{Moved, Still, Stuck, Waits, Barrier}
 pub use Rattle.ido_base.specs.declared.limits.TheConstants.{MOST_VARIABLE_BYTES, VARIABLE_WORDS}
-pub use Rattle.ido_base.specs.declared.log.Log.{Log}
+pub use Rattle.log_schemes.specs.declared.log.Log.{Log}
 pub use Rattle.ido_base.specs.declared.place.Place.{Place}
 pub use Rattle.ido_base.proofs.Public.{same_last, write_backs_raise, are_persisted_refl, changed_refl}
 pub use Rattle.ido_ints.specs.Kinds.{bytes_of, Holds, bits_of, modulus_of}
@@ -48,25 +49,25 @@ pub use Rattle.source_machine.proofs.Public.{goes_on, run_keeps, leaves_held, lo
 pub use Rattle.source_machine.proofs.Public.{locks_found, unlocks_found, Passed, apart, unlocks_held, mutex_passed, ends_by, unlocks_same}
 pub use Rattle.c_ranges.specs.RunInvariants.{IsThreadOf, IsStoreInRange, AreNumbersOf, IsStatementLeft}
 pub use Rattle.c_ranges.proofs.Public.{zip_found, fits_element, lock_below, Pair, all_held, elements_is, zip_at}
-pub use Rattle.rv64_isa.specs.Executables.{first_world}
-pub use Rattle.rv64_isa.specs.Frames.{IsWellFormedWorld}
-pub use Rattle.rv64_isa.specs.Machine.{Hart, World, after_event, reply_to, stepped, after_events, durable_point, Outcome, with_holder, moved, gone_on}
-pub use Rattle.rv64_isa.specs.Machine.{resume_of, fresh_hart, numbers_from}
-unfoldable pub use Rattle.rv64_isa.specs.Machine.{happens, after_crash_of, start_of}
+pub use Rattle.machine_model.specs.Executables.{first_world}
+pub use Rattle.machine_model.specs.Frames.{IsWellFormedWorld}
+pub use Rattle.machine_model.specs.Machine.{Hart, World, after_event, reply_to, stepped, after_events, durable_point, Outcome, with_holder, moved, gone_on}
+pub use Rattle.machine_model.specs.Machine.{resume_of, fresh_hart, numbers_from}
+unfoldable pub use Rattle.machine_model.specs.Machine.{happens, after_crash_of, start_of}
 pub use Rattle.rv64_isa.specs.Programs.{code_start}
 pub use Rattle.rv64_isa.specs.Rows.{read, Effect, Stores, Continues, Loads, Cleans, Fences, Calls}
 unfoldable pub use Rattle.rv64_isa.specs.Rows.{row}
-pub use Rattle.rv64_isa.specs.Schedule.{Steps, has_moved, is_running, completing, is_mark, passes_mark, stores_point, with_step, HartSteps, no_steps}
-pub use Rattle.rv64_isa.specs.Schedule.{hart_steps, with_begun, with_bound, Bound, durable_steps, with_kept, with_all_kept, steps_along, releases_last}
-pub use Rattle.rv64_isa.specs.Schedule.{released_count, LifeSchedules, only_life, first_steps, effect_at, is_point_store}
-unfoldable pub use Rattle.rv64_isa.specs.Schedule.{steps_after}
+pub use Rattle.machine_model.specs.Schedule.{Steps, has_moved, is_running, completing, is_mark, passes_mark, stores_point, with_step, HartSteps, no_steps}
+pub use Rattle.machine_model.specs.Schedule.{hart_steps, with_begun, with_bound, Bound, durable_steps, with_kept, with_all_kept, steps_along, releases_last}
+pub use Rattle.machine_model.specs.Schedule.{released_count, LifeSchedules, only_life, first_steps, effect_at, is_point_store}
+unfoldable pub use Rattle.machine_model.specs.Schedule.{steps_after}
 pub use Rattle.rv64_isa.specs.declared.instr.Instr.{Instr}
 pub use Rattle.rv64_isa.specs.declared.instr.Instr.TheVariants.{Ecall}
 pub use Rattle.rv64_isa.specs.declared.object.Slot.{Slot}
-pub use Rattle.rv64_isa.specs.declared.phase.Phase.{Phase}
-pub use Rattle.rv64_isa.specs.declared.phase.Phase.TheVariants.{Done, Take, Wait, Resume, Run, Ended}
-pub use Rattle.rv64_isa.proofs.Public.{log_stays, evictions_touch, steps_touch, get-set_same, step_earlier, get-set_other, crashes_simulate, starts_simulate}
-pub use Rattle.rv64_isa.proofs.Public.{queues_stand}
+pub use Rattle.machine_model.specs.declared.phase.Phase.{Phase}
+pub use Rattle.machine_model.specs.declared.phase.Phase.TheVariants.{Done, Take, Wait, Resume, Run, Ended}
+pub use Rattle.machine_model.proofs.Public.{log_stays, evictions_touch, steps_touch, get-set_same, step_earlier, get-set_other, crashes_simulate, starts_simulate}
+pub use Rattle.machine_model.proofs.Public.{queues_stand}
 pub use Rattle.flow_graph.specs.Actions.{Seen, GraphThread, FlowState, seen_by, effect_of, graph_step, effect_step, graph_after, graph_thread_start}
 pub use Rattle.flow_graph.specs.IdempotentCuts.{IsChosen, IsUnlock, AreCuts, at_boundary}
 pub use Rattle.flow_graph.specs.Liveness.{NodeAt}

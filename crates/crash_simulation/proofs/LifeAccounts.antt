@@ -3,8 +3,8 @@ use Rattle.std.proofs.Common.{◌≡◌, refl, ℕ, zero, suc, List, [], ◌∷�
 use Rattle.c_tree.specs.Flats as f
 use Rattle.c_tree.specs.Source.{State, after_from, is_between, start}
 use Rattle.source_machine.specs.Lives.{are_between, begun_after, end_lives, ends_life, restart}
-use Rattle.rv64_isa.specs.Machine.{World}
-use Rattle.rv64_isa.specs.Schedule.{Steps}
+use Rattle.machine_model.specs.Machine.{World}
+use Rattle.machine_model.specs.Schedule.{Steps}
 use Rattle.crash_simulation.specs.Systems.{System, IsSystem, flat_of}
 use Rattle.crash_simulation.specs.AccountRelation.{Beginning, SimulatesLives, beginning_after, first_beginning, next_beginning}
 

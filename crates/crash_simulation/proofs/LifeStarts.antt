@@ -3,15 +3,15 @@ use Rattle.std.proofs.Common.{◌≡◌, ◌⊎◌, inl, inr, refl, ℕ, ◌+◌
 use Rattle.std.proofs.Common.{◌&&◌, Some, None}
 use Rattle.std.specs.Prelude.{if◌then◌else◌}
 use Rattle.std.proofs.lemmas.Bool.{and_parts, true≢false}
-use Rattle.ido_base.specs.declared.event.Event.TheVariants.{Start}
+use Rattle.machine_events.specs.declared.event.Event.TheVariants.{Start}
 use Rattle.c_tree.specs.Source.{State, after_from}
 use Rattle.source_machine.specs.Lives.{ends_life, restart}
 use Rattle.rv64_isa.specs.declared.object.Slot.{Slot}
-use Rattle.rv64_isa.specs.declared.phase.Phase.{Phase}
-use Rattle.rv64_isa.specs.declared.phase.Phase.TheVariants.{Take, Wait, Resume, Run, Done, Ended}
-use Rattle.rv64_isa.specs.Machine.{World, Outcome, after_event, anew, can_start, has_stopped, have_stopped, is_settled, started_anew}
-use Rattle.rv64_isa.specs.Schedule.{Steps, first_steps, next_life, steps_after}
-use Rattle.rv64_isa.proofs.Public.{anew_length, anew_there, each_stopped, outcome_of, starts_by}
+use Rattle.machine_model.specs.declared.phase.Phase.{Phase}
+use Rattle.machine_model.specs.declared.phase.Phase.TheVariants.{Take, Wait, Resume, Run, Done, Ended}
+use Rattle.machine_model.specs.Machine.{World, Outcome, after_event, anew, can_start, has_stopped, have_stopped, is_settled, started_anew}
+use Rattle.machine_model.specs.Schedule.{Steps, first_steps, next_life, steps_after}
+use Rattle.machine_model.proofs.Public.{anew_length, anew_there, each_stopped, outcome_of, starts_by}
 use Rattle.recovery_semantics.specs.Attempts.{Attempt}
 use Rattle.recovery_semantics.specs.Configs.{now}
 use Rattle.recovery_semantics.proofs.Public.{none_yet}

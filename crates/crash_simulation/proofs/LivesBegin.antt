@@ -4,8 +4,8 @@ use Rattle.crash_simulation.proofs.Common.{Option, Some, slice_get, true≢false
 use Rattle.crash_simulation.proofs.Common.{is_between, holds_none, AreEntries, Hart, World, fresh_hart, Phase, Run, Log, Word}
 use Rattle.crash_simulation.proofs.Common.{LogInv, nothing_recorded, Record, AbstractRun, Simulates, IsMachineOf, gathering, gathered, System, IsSystem}
 use Rattle.crash_simulation.proofs.Common.{thread_count, flat_of, places_of, InPhase, Origin, memory_in, word_count}
-use Rattle.rv64_isa.specs.declared.phase.Phase.TheVariants.{Done, Ended}
-use Rattle.rv64_isa.specs.Machine.{are_settled, durable_point, is_settled_hart}
+use Rattle.machine_model.specs.declared.phase.Phase.TheVariants.{Done, Ended}
+use Rattle.machine_model.specs.Machine.{are_settled, durable_point, is_settled_hart}
 use Rattle.recovery_semantics.specs.ElementHistories.{AreStable}
 use Rattle.region_attempts.proofs.Public.{life_origin, settled_may_begin}
 use Rattle.log_states.specs.Stages.{LogIs}

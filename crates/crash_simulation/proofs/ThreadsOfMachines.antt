@@ -3,8 +3,8 @@ use Rattle.crash_simulation.proofs.Common.{◌≡◌, ◌≢◌, ℕ, List, sym,
 use Rattle.crash_simulation.proofs.Common.{Evict, Crash, IsWellFormedWorld, World, after_event, Slot, Phase, log_stays, evictions_touch, steps_touch}
 use Rattle.crash_simulation.proofs.Common.{queues_stand, IsInPhase, queues_stay_short, crashes_step, same_there, same_or_other, with_ghost, SimulatesBut}
 use Rattle.crash_simulation.proofs.Common.{IsMachineOf, System, IsSystem, thread_count, ThreadGhost, InPhase}
-use Rattle.ido_base.specs.declared.event.Event.TheVariants.{Start}
-use Rattle.rv64_isa.proofs.Public.{after_start}
+use Rattle.machine_events.specs.declared.event.Event.TheVariants.{Start}
+use Rattle.machine_model.proofs.Public.{after_start}
 use Rattle.crash_simulation.proofs.LocksAfterStep.{own_ghost, other_ghost}
 
 -- ---- The machine

@@ -1,12 +1,12 @@
 -- The machine's account of begun and kept steps is that of the abstract run's config.
 use Rattle.std.specs.Prelude.{◌≡◌, ℕ, ◌<◌, ◌≤◌, List, [], ◌∷◌, ◌++◌, length, Bool, true, false}
-use Rattle.ido_base.specs.declared.event.Event.{Event}
+use Rattle.machine_events.specs.declared.event.Event.{Event}
 use Rattle.ido_base.specs.Words.{last_position}
 use Rattle.c_tree.specs.Source.{State, after_from, start}
 use Rattle.source_machine.specs.Lives.{end_lives, restart}
-use Rattle.rv64_isa.specs.Executables.{first_world}
-use Rattle.rv64_isa.specs.Machine.{World, after_events}
-use Rattle.rv64_isa.specs.Schedule.{HartSteps, Steps, only_life, hart_steps, first_steps, steps_along, released_count}
+use Rattle.machine_model.specs.Executables.{first_world}
+use Rattle.machine_model.specs.Machine.{World, after_events}
+use Rattle.machine_model.specs.Schedule.{HartSteps, Steps, only_life, hart_steps, first_steps, steps_along, released_count}
 use Rattle.recovery_semantics.specs.Events.{steps_begun}
 use Rattle.log_states.specs.Logs.{point_in}
 use Rattle.crash_simulation.specs.Systems.{System, IsSystem, flat_of, thread_count}

@@ -2,19 +2,20 @@
 use Rattle.std.specs.Prelude.{◌≡◌, ◌≢◌, ◌⊎◌, ℕ, suc, ◌/◌, ◌<◌, slice_get, Option, Some, is_some, Bool, true, false, not, ◌&&◌, ◌==◌, if◌then◌else◌}
 use Rattle.c_tree.specs.Exprs.{LockName}
 use Rattle.std.specs.List.{list_any}
-use Rattle.ido_base.specs.declared.event.Event.TheVariants.{Step}
-use Rattle.ido_base.specs.declared.event.Reply.TheVariants.{Waits}
-use Rattle.ido_base.specs.Layout.{log_words, variable_at, byte_number}
+use Rattle.machine_events.specs.declared.event.Event.TheVariants.{Step}
+use Rattle.machine_events.specs.declared.event.Reply.TheVariants.{Waits}
+use Rattle.ido_base.specs.Layout.{variable_at, byte_number}
+use Rattle.log_schemes.specs.Layout.{log_words}
 use Rattle.ido_ints.specs.Kinds.{bytes_of}
 use Rattle.c_tree.specs.Programs.{Variable}
 use Rattle.c_tree.specs.WellFormed.{elements_in}
 use Rattle.c_tree.specs.Source.{State}
 use Rattle.source_machine.specs.Discipline.{Guards}
 use Rattle.source_machine.specs.Mutexes.{unlocks}
-use Rattle.rv64_isa.specs.declared.phase.Phase.TheVariants.{Run, Done, Ended}
+use Rattle.machine_model.specs.declared.phase.Phase.TheVariants.{Run, Done, Ended}
 use Rattle.rv64_isa.specs.Rows.{Effect, Stores}
-use Rattle.rv64_isa.specs.Machine.{Hart, World, after_event, happens}
-use Rattle.rv64_isa.specs.Schedule.{passes_mark, stores_point, releases_last}
+use Rattle.machine_model.specs.Machine.{Hart, World, after_event, happens}
+use Rattle.machine_model.specs.Schedule.{passes_mark, stores_point, releases_last}
 use Rattle.flow_graph.specs.Nodes.{Lock, Node}
 use Rattle.flow_graph.specs.Liveness.{NodeAt}
 use Rattle.hart_runs.specs.Calls.{IsInPhase}

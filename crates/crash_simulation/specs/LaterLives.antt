@@ -2,8 +2,8 @@
 use Rattle.std.specs.Prelude.{◌≡◌, ◌⊎◌, ℕ, List, [], length, slice_get, Some, true}
 use Rattle.c_tree.specs.Source.{after_from}
 use Rattle.rv64_isa.specs.declared.object.Slot.{Slot}
-use Rattle.rv64_isa.specs.declared.phase.Phase.TheVariants.{Run, Done, Ended}
-use Rattle.rv64_isa.specs.Machine.{Hart, World, fresh_hart, is_settled}
+use Rattle.machine_model.specs.declared.phase.Phase.TheVariants.{Run, Done, Ended}
+use Rattle.machine_model.specs.Machine.{Hart, World, fresh_hart, is_settled}
 use Rattle.source_machine.specs.Lives.{restart}
 use Rattle.crash_simulation.specs.Systems.{System, IsSystem, flat_of}
 use Rattle.crash_simulation.specs.SimulationRelation.{Simulates}

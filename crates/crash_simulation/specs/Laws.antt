@@ -1,14 +1,14 @@
 -- Laws of compiled programs in a machine.
 use Rattle.std.specs.Prelude.{◌≡◌, ◌≢◌, ◌⊎◌, ℕ, ◌<◌, List, map, true}
 use Rattle.c_tree.specs.Source.{State, after_from, runs_from}
-use Rattle.ido_base.specs.declared.event.Event.{Event}
-use Rattle.ido_base.specs.declared.event.Event.TheVariants.{Step, Evict, Crash}
-use Rattle.ido_base.specs.declared.event.Reply.TheVariants.{Moved, Stuck}
-use Rattle.ido_base.specs.declared.event.Cause.{Cause}
-use Rattle.rv64_isa.specs.declared.phase.Phase.{Phase}
-use Rattle.rv64_isa.specs.declared.phase.Phase.TheVariants.{Take, Wait, Resume, Run, Done, Ended}
-use Rattle.rv64_isa.specs.Executables.{first_world}
-use Rattle.rv64_isa.specs.Machine.{World, after_event, reply_to, durable_point}
+use Rattle.machine_events.specs.declared.event.Event.{Event}
+use Rattle.machine_events.specs.declared.event.Event.TheVariants.{Step, Evict, Crash}
+use Rattle.machine_events.specs.declared.event.Reply.TheVariants.{Moved, Stuck}
+use Rattle.machine_events.specs.declared.event.Cause.{Cause}
+use Rattle.machine_model.specs.declared.phase.Phase.{Phase}
+use Rattle.machine_model.specs.declared.phase.Phase.TheVariants.{Take, Wait, Resume, Run, Done, Ended}
+use Rattle.machine_model.specs.Executables.{first_world}
+use Rattle.machine_model.specs.Machine.{World, after_event, reply_to, durable_point}
 use Rattle.hart_runs.specs.Calls.{IsInPhase}
 use Rattle.recovery_semantics.specs.ElementHistories.{durable_number}
 use Rattle.recovery_semantics.specs.VariableSpots.{memory_in}

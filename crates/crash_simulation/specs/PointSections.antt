@@ -1,10 +1,10 @@
 -- Sections that are kept, and durable points: by each event of a life one section of a thread ends in its kept schedule exactly where the durable point of
 -- its hart, which was not 0, becomes 0.
 use Rattle.std.specs.Prelude.{◌≡◌, ℕ, ◌+◌, ◌<◌, List, [], ◌∷◌, ◌++◌, Bool, false, not, ◌&&◌, ◌==◌}
-use Rattle.ido_base.specs.declared.event.Event.{Event}
-use Rattle.rv64_isa.specs.Executables.{first_world}
-use Rattle.rv64_isa.specs.Machine.{World, after_event, after_events, durable_point}
-use Rattle.rv64_isa.specs.Schedule.{begins_life}
+use Rattle.machine_events.specs.declared.event.Event.{Event}
+use Rattle.machine_model.specs.Executables.{first_world}
+use Rattle.machine_model.specs.Machine.{World, after_event, after_events, durable_point}
+use Rattle.machine_model.specs.Schedule.{begins_life}
 use Rattle.crash_simulation.specs.Systems.{System, IsSystem, thread_count}
 use Rattle.crash_simulation.specs.ReleasedSections.{one_if, ended_in_source}
 

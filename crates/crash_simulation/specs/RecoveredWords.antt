@@ -1,10 +1,10 @@
 -- Words with which recovery begins an execution anywhere: their records describe an origin.
 use Rattle.std.specs.Prelude.{◌≡◌, ℕ, List, length, map}
-use Rattle.ido_base.specs.declared.event.Event.{Event}
-use Rattle.ido_base.specs.Layout.{word_count}
+use Rattle.machine_events.specs.declared.event.Event.{Event}
+use Rattle.log_schemes.specs.Layout.{word_count}
 use Rattle.ido_base.specs.Words.{word_of}
-use Rattle.rv64_isa.specs.Machine.{World, after_crash_of, after_events}
-use Rattle.rv64_isa.specs.Schedule.{LifeSchedules, first_steps, steps_along, released_count}
+use Rattle.machine_model.specs.Machine.{World, after_crash_of, after_events}
+use Rattle.machine_model.specs.Schedule.{LifeSchedules, first_steps, steps_along, released_count}
 use Rattle.variable_words.specs.Variables.{durable_variables}
 use Rattle.region_attempts.specs.Origins.{Origin}
 use Rattle.recovered_threads.specs.Machines.{RecoversTo}

@@ -1,12 +1,12 @@
 -- The kept schedule and the machine's releases: it holds each section that has ended, and at most one more of each thread.
 use Rattle.std.specs.Prelude.{◌≡◌, ℕ, suc, ◌+◌, ◌≤◌, List, [], length, Bool, if◌then◌else◌}
-use Rattle.ido_base.specs.declared.event.Event.{Event}
+use Rattle.machine_events.specs.declared.event.Event.{Event}
 use Rattle.c_tree.specs.Source.{start, ended_from}
 use Rattle.source_machine.specs.Lives.{begun_after}
-use Rattle.rv64_isa.specs.declared.phase.Phase.TheVariants.{Done}
-use Rattle.rv64_isa.specs.Executables.{first_world}
-use Rattle.rv64_isa.specs.Machine.{World}
-use Rattle.rv64_isa.specs.Schedule.{Steps, only_life, first_steps, steps_along, released_count}
+use Rattle.machine_model.specs.declared.phase.Phase.TheVariants.{Done}
+use Rattle.machine_model.specs.Executables.{first_world}
+use Rattle.machine_model.specs.Machine.{World}
+use Rattle.machine_model.specs.Schedule.{Steps, only_life, first_steps, steps_along, released_count}
 use Rattle.hart_runs.specs.Calls.{IsInPhase}
 use Rattle.crash_simulation.specs.Systems.{System, IsSystem, flat_of}
 use Rattle.crash_simulation.specs.AbstractRuns.{AbstractRun}

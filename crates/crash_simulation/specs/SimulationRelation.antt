@@ -1,7 +1,7 @@
 -- What is true of a machine that runs a compiled program, at each moment: it simulates an abstract run of the source.
 use Rattle.std.specs.Prelude.{◌≡◌, ◌≢◌, ◌⊎◌, ℕ, ◌<◌, [], length, slice_get, Some, None}
-use Rattle.rv64_isa.specs.Machine.{World}
-use Rattle.rv64_isa.specs.Frames.{IsWellFormedWorld}
+use Rattle.machine_model.specs.Machine.{World}
+use Rattle.machine_model.specs.Frames.{IsWellFormedWorld}
 use Rattle.flow_graph.specs.Actions.{FlowState}
 use Rattle.recovery_semantics.specs.VariableSpots.{memory_in}
 use Rattle.log_states.specs.Logs.{Record}

@@ -5,7 +5,7 @@ use Rattle.c_tree.specs.Flats as f
 use Rattle.c_tree.specs.WellFormed.{shape_of, initial_numbers}
 use Rattle.c_tree.specs.LockDiscipline.{IsDisciplined}
 use Rattle.memory_layout.specs.Variables.{AreInitial}
-use Rattle.rv64_isa.specs.Executables.{Executable}
+use Rattle.machine_model.specs.Executables.{Executable}
 use Rattle.hart_runs.specs.Laws.{program_at}
 use Rattle.recovery_semantics.specs.VariableSpots.{Spot}
 use Rattle.variable_words.specs.VariablesInWords.{spots_of}

@@ -7,10 +7,10 @@ use Rattle.c_tree.specs.Programs.{Variable}
 use Rattle.c_tree.specs.WellFormed.{elements_in}
 use Rattle.c_tree.specs.Source.{State}
 use Rattle.source_machine.specs.Discipline.{Guards}
-use Rattle.rv64_isa.specs.declared.phase.Phase.{Phase}
-use Rattle.rv64_isa.specs.declared.phase.Phase.TheVariants.{Take, Wait, Resume, Run, Done, Ended}
+use Rattle.machine_model.specs.declared.phase.Phase.{Phase}
+use Rattle.machine_model.specs.declared.phase.Phase.TheVariants.{Take, Wait, Resume, Run, Done, Ended}
 use Rattle.rv64_isa.specs.Rows.{Effect, Cleans}
-use Rattle.rv64_isa.specs.Machine.{Hart, World}
+use Rattle.machine_model.specs.Machine.{Hart, World}
 use Rattle.code_runs.specs.CodeTraces.{MarkedEnvironment, seen_effects}
 use Rattle.flow_graph.specs.Actions.{GraphThread, seen_by}
 use Rattle.flow_graph.specs.IdempotentCuts.{IsChosen}

@@ -3,13 +3,13 @@ use Rattle.std.proofs.Common.{◌≡◌, inl, refl, ℕ, ◌<◌, List, [], ◌�
 use Rattle.std.proofs.Common.{Bool, true, false, Option, Some, None}
 use Rattle.std.specs.Prelude.{slice_get, not}
 use Rattle.std.proofs.lemmas.Option.{slice_get_within, slice_get-get_or}
-use Rattle.ido_base.specs.declared.event.Event.{Event}
-use Rattle.ido_base.specs.declared.event.Event.TheVariants.{Step, Crash}
-use Rattle.ido_base.specs.declared.event.Reply.{Reply}
-use Rattle.ido_base.specs.declared.event.Reply.TheVariants.{Moved}
-use Rattle.ido_base.specs.Cores.{is_idle, is_enabled, least_enabled}
-use Rattle.rv64_isa.specs.Executables.{Executable}
-use Rattle.rv64_isa.specs.Schedule.{all_lives}
+use Rattle.machine_events.specs.declared.event.Event.{Event}
+use Rattle.machine_events.specs.declared.event.Event.TheVariants.{Step, Crash}
+use Rattle.machine_events.specs.declared.event.Reply.{Reply}
+use Rattle.machine_events.specs.declared.event.Reply.TheVariants.{Moved}
+use Rattle.machine_events.specs.Cores.{is_idle, is_enabled, least_enabled}
+use Rattle.machine_model.specs.Executables.{Executable}
+use Rattle.machine_model.specs.Schedule.{all_lives}
 use Rattle.std.specs.Prelude.{if◌then◌else◌}
 use Rattle.std.proofs.lemmas.Bool.{and_parts}
 use Rattle.c_tree.specs.Flats as f
@@ -18,8 +18,8 @@ use Rattle.c_tree.specs.WellFormed.{IsWellFormed}
 use Rattle.source_machine.specs.Discipline.{IsReachedState}
 use Rattle.source_machine.specs.Lives.{after_lives, begun_after, end_lives, restart}
 use Rattle.source_machine.proofs.Public.{after_life, runs_life}
-use Rattle.rv64_isa.specs.declared.phase.Phase.TheVariants.{Take}
-use Rattle.rv64_isa.specs.Machine.{Hart, World, Outcome, reply_to}
+use Rattle.machine_model.specs.declared.phase.Phase.TheVariants.{Take}
+use Rattle.machine_model.specs.Machine.{Hart, World, Outcome, reply_to}
 use Rattle.hart_runs.specs.HartsOnRuns.{instr_of}
 use Rattle.hart_runs.specs.Calls.{IsAtCall, lock_asked}
 use Rattle.run_tracker.specs.ObjectLives.{LifeConfig, living}

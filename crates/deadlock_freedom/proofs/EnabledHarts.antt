@@ -2,8 +2,8 @@
 use Rattle.std.proofs.Common.{◌≡◌, ◌<◌, inl, inr, refl, ℕ, zero, suc, ap, sym, ◌∙◌, cond, Bool, true, false, Option, Some, None, arith}
 use Rattle.std.specs.Prelude.{not}
 use Rattle.std.proofs.lemmas.Bool.{cases_eq}
-use Rattle.ido_base.specs.Cores.{Behaviour, is_enabled, least_enabled}
-use Rattle.ido_base.proofs.Public.{least_enabled-next}
+use Rattle.machine_events.specs.Cores.{Behaviour, is_enabled, least_enabled}
+use Rattle.machine_events.proofs.Public.{least_enabled-next}
 
 module _ {M : Type 0} (b : Behaviour M) (m : M) where
   abbrev least_or : (hart : ℕ) → Option ℕ → Option ℕ

@@ -3,25 +3,26 @@ use Rattle.std.proofs.Common.{◌≡◌, ◌≢◌, ◌⊎◌, inl, inr, refl, �
 use Rattle.std.proofs.Common.{Option, Some, None}
 use Rattle.std.specs.Prelude.{slice_get, is_none, nat_lt, ◌==◌}
 use Rattle.std.proofs.lemmas.Bool.{cond_both, eqb-true, and_parts}
-use Rattle.ido_base.specs.declared.event.Event.TheVariants.{Step}
-use Rattle.ido_base.specs.declared.event.Reply.{Reply}
-use Rattle.ido_base.specs.declared.event.Reply.TheVariants.{Moved, Drained, Still}
+use Rattle.machine_events.specs.declared.event.Event.TheVariants.{Step}
+use Rattle.machine_events.specs.declared.event.Reply.{Reply}
+use Rattle.machine_events.specs.declared.event.Reply.TheVariants.{Moved, Drained, Still}
 use Rattle.ido_base.specs.Words.{Entry, drained, stored}
-use Rattle.ido_base.specs.Cores.{is_idle}
-use Rattle.ido_base.specs.Layout.{in_range, aligned, byte_number}
+use Rattle.machine_events.specs.Cores.{is_idle}
+use Rattle.ido_base.specs.Layout.{aligned, byte_number}
+use Rattle.log_schemes.specs.Layout.{in_range}
 use Rattle.ido_base.specs.Locks.{is_held_by, least_held, holds_none}
 use Rattle.rv64_isa.specs.declared.instr.Instr.{Instr}
 use Rattle.rv64_isa.specs.declared.instr.Instr.TheVariants as instr
 use Rattle.rv64_isa.specs.declared.object.Slot.{Slot}
 use Rattle.rv64_isa.specs.declared.object.Slot.TheVariants.{Row, NoRow}
-use Rattle.rv64_isa.specs.declared.phase.Phase.{Phase}
-use Rattle.rv64_isa.specs.declared.phase.Phase.TheVariants.{Take, Wait, Resume, Run, Done, Ended}
+use Rattle.machine_model.specs.declared.phase.Phase.{Phase}
+use Rattle.machine_model.specs.declared.phase.Phase.TheVariants.{Take, Wait, Resume, Run, Done, Ended}
 use Rattle.rv64_isa.specs.Rows.{Effect, Continues, Loads, Stores, Cleans, Fences, Calls, row, read}
 use Rattle.rv64_isa.specs.Programs.{fetched}
-use Rattle.rv64_isa.specs.Machine.{Hart, World, Outcome, with_hart, with_holder, gone_on, drain_one, access, cleaned, fenced, acquired, released}
-use Rattle.rv64_isa.specs.Machine.{ended, called, applied, executed, hart_step, over_after, done_if_over, run_step, phase_step, stepped, happens}
-use Rattle.rv64_isa.specs.Machine.{waited, taking_from, is_taking}
-use Rattle.rv64_isa.proofs.Public.{get-set_same}
+use Rattle.machine_model.specs.Machine.{Hart, World, Outcome, with_hart, with_holder, gone_on, drain_one, access, cleaned, fenced, acquired, released}
+use Rattle.machine_model.specs.Machine.{ended, called, applied, executed, hart_step, over_after, done_if_over, run_step, phase_step, stepped, happens}
+use Rattle.machine_model.specs.Machine.{waited, taking_from, is_taking}
+use Rattle.machine_model.proofs.Public.{get-set_same}
 
 -- the hart goes on
 pub record HasNotStopped (hart : Hart) : Type 0 where

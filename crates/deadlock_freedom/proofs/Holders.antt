@@ -3,18 +3,18 @@ use Rattle.std.proofs.Common.{◌≡◌, ◌≢◌, ◌⊎◌, inl, inr, refl, �
 use Rattle.std.proofs.Common.{Option, Some, None, arith}
 use Rattle.std.specs.Prelude.{slice_get, is_none, ◌==◌}
 use Rattle.std.proofs.lemmas.Bool.{cases_eq, cond_both}
-use Rattle.ido_base.specs.declared.log.Log.{Log}
-use Rattle.ido_base.specs.declared.event.Event.{Event}
-use Rattle.ido_base.specs.declared.event.Event.TheVariants.{Step, Evict, Crash, Start}
-use Rattle.ido_base.specs.declared.event.Reply.TheVariants.{Waits}
+use Rattle.log_schemes.specs.declared.log.Log.{Log}
+use Rattle.machine_events.specs.declared.event.Event.{Event}
+use Rattle.machine_events.specs.declared.event.Event.TheVariants.{Step, Evict, Crash, Start}
+use Rattle.machine_events.specs.declared.event.Reply.TheVariants.{Waits}
 use Rattle.ido_base.specs.Locks.{is_held_by, held_from, holds_none, least_missing}
 use Rattle.rv64_isa.specs.declared.object.Slot.{Slot}
-use Rattle.rv64_isa.specs.declared.phase.Phase.{Phase}
-use Rattle.rv64_isa.specs.declared.phase.Phase.TheVariants.{Take, Wait, Resume, Run, Done, Ended}
-use Rattle.rv64_isa.specs.Machine.{Hart, World, Outcome, moved, with_hart, with_holder, happens, after_event, after_events, taken, waited, taking_from}
-use Rattle.rv64_isa.specs.Machine.{anew, phase_step, record_of, run_step, start_of, started_anew, after_crash_of}
-use Rattle.rv64_isa.specs.Frames.{IsHeldOn, Stays, Takes, Gives, Touches, IsWellFormedWorld}
-use Rattle.rv64_isa.proofs.Public.{after_start, anew_there, get-set_same, queues_stand, starts_simulate, steps_touch}
+use Rattle.machine_model.specs.declared.phase.Phase.{Phase}
+use Rattle.machine_model.specs.declared.phase.Phase.TheVariants.{Take, Wait, Resume, Run, Done, Ended}
+use Rattle.machine_model.specs.Machine.{Hart, World, Outcome, moved, with_hart, with_holder, happens, after_event, after_events, taken, waited, taking_from}
+use Rattle.machine_model.specs.Machine.{anew, phase_step, record_of, run_step, start_of, started_anew, after_crash_of}
+use Rattle.machine_model.specs.Frames.{IsHeldOn, Stays, Takes, Gives, Touches, IsWellFormedWorld}
+use Rattle.machine_model.proofs.Public.{after_start, anew_there, get-set_same, queues_stand, starts_simulate, steps_touch}
 use Rattle.deadlock_freedom.proofs.HartReplies.{HasNotStopped, has_not_stopped, run_goes_on, run_leads, by_phase, none_there}
 
 -- each holder of a lock is a hart that goes on

@@ -3,17 +3,17 @@ use Rattle.std.proofs.Common.{◌≡◌, ◌⊎◌, inl, inr, refl, ℕ, zero, s
 use Rattle.std.proofs.Common.{Some, arith}
 use Rattle.std.specs.Prelude.{slice_get}
 use Rattle.std.proofs.lemmas.Option.{slice_get_within}
-use Rattle.ido_base.specs.declared.event.Event.TheVariants.{Step}
-use Rattle.ido_base.specs.declared.event.Reply.TheVariants.{Moved}
-use Rattle.ido_base.specs.Cores.{is_idle}
+use Rattle.machine_events.specs.declared.event.Event.TheVariants.{Step}
+use Rattle.machine_events.specs.declared.event.Reply.TheVariants.{Moved}
+use Rattle.machine_events.specs.Cores.{is_idle}
 use Rattle.rv64_isa.specs.declared.instr.Instr.TheVariants.{Ecall}
 use Rattle.rv64_isa.specs.declared.object.Slot.{Slot}
 use Rattle.rv64_isa.specs.declared.object.Slot.TheVariants.{Row}
-use Rattle.rv64_isa.specs.declared.phase.Phase.{Phase}
-use Rattle.rv64_isa.specs.declared.phase.Phase.TheVariants.{Take, Wait, Resume, Run, Done, Ended}
+use Rattle.machine_model.specs.declared.phase.Phase.{Phase}
+use Rattle.machine_model.specs.declared.phase.Phase.TheVariants.{Take, Wait, Resume, Run, Done, Ended}
 use Rattle.rv64_isa.specs.Rows.{read}
 use Rattle.rv64_isa.specs.Programs.{fetched}
-use Rattle.rv64_isa.specs.Machine.{Hart, World, Outcome, reply_to, phase_step}
+use Rattle.machine_model.specs.Machine.{Hart, World, Outcome, reply_to, phase_step}
 use Rattle.deadlock_freedom.proofs.HartReplies.{HasNotStopped, run_leads, by_phase, waits_for_takers}
 use Rattle.deadlock_freedom.proofs.Holders.{HoldersGoOn}
 

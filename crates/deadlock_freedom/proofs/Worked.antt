@@ -1,17 +1,17 @@
 -- Worked rows: harts that wait for each other. None can step, and none has stopped; where one of their locks is free, who wants it can.
 use Rattle.std.proofs.Common.{◌≡◌, ℕ, List, [], ◌∷◌, replicate, refl, true, Option, Some, None}
 use Rattle.std.specs.Prelude.{slice_set}
-use Rattle.ido_base.specs.declared.log.Log.TheVariants.{V1}
-use Rattle.ido_base.specs.Cores.{least_enabled}
+use Rattle.log_schemes.specs.declared.log.Log.TheVariants.{V1}
+use Rattle.machine_events.specs.Cores.{least_enabled}
 use Rattle.rv64_isa.specs.declared.instr.Instr.TheVariants.{Ecall}
 use Rattle.rv64_isa.specs.declared.object.Slot.{Slot}
 use Rattle.rv64_isa.specs.declared.object.Slot.TheVariants.{Row}
-use Rattle.rv64_isa.specs.declared.phase.Phase.{Phase}
-use Rattle.rv64_isa.specs.declared.phase.Phase.TheVariants.{Run, Done, Ended}
+use Rattle.machine_model.specs.declared.phase.Phase.{Phase}
+use Rattle.machine_model.specs.declared.phase.Phase.TheVariants.{Run, Done, Ended}
 use Rattle.rv64_isa.specs.Programs.{code_start}
 use Rattle.rv64_isa.specs.Rows.{row}
-use Rattle.rv64_isa.specs.Machine.{Hart, happens}
-use Rattle.rv64_isa.specs.Schedule.{only_life}
+use Rattle.machine_model.specs.Machine.{Hart, happens}
+use Rattle.machine_model.specs.Schedule.{only_life}
 use Rattle.run_tracker.specs.ObjectLives.{LifeConfig, living}
 
 -- two harts, each at a call

@@ -1,9 +1,9 @@
 -- No deadlock: whatever has happened, a hart can step unless all have stopped.
 use Rattle.std.specs.Prelude.{◌≡◌, ◌⊎◌, ◌↔◌, ℕ, List, length, slice_get, Some, None}
-use Rattle.ido_base.specs.declared.event.Event.{Event}
-use Rattle.ido_base.specs.Cores.{least_enabled}
-use Rattle.rv64_isa.specs.declared.phase.Phase.TheVariants.{Done, Ended}
-use Rattle.rv64_isa.specs.Machine.{World, Hart}
+use Rattle.machine_events.specs.declared.event.Event.{Event}
+use Rattle.machine_events.specs.Cores.{least_enabled}
+use Rattle.machine_model.specs.declared.phase.Phase.TheVariants.{Done, Ended}
+use Rattle.machine_model.specs.Machine.{World, Hart}
 use Rattle.run_tracker.specs.ObjectLives.{LifeConfig, living}
 use Rattle.lock_order.specs.LockOrder.{order_fault}
 use Rattle.compiler_correctness.specs.Translations.{Translation, world}

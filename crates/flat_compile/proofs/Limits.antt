@@ -5,12 +5,13 @@ use Rattle.std.specs.Global.{Global}
 use Rattle.std.proofs.lemmas.List.{length-map}
 use Rattle.std.proofs.lemmas.Option.{none-some, same_Some}
 use Rattle.ido_base.specs.declared.limits.TheConstants.{MOST_CODE_WORDS, MOST_VARIABLE_BYTES}
-use Rattle.ido_base.specs.declared.log.Log.{Log}
-use Rattle.ido_base.specs.declared.log.Log.TheVariants.{V1, V2}
+use Rattle.log_schemes.specs.declared.log.Log.{Log}
+use Rattle.log_schemes.specs.declared.log.Log.TheVariants.{V1, V2}
 use Rattle.ido_base.specs.Layout.{end_from}
 use Rattle.c_tree.specs.Flats as f
 use Rattle.c_tree.specs.WellFormed.{shape_of}
-use Rattle.rv64_isa.specs.Programs.{code_base, program_of, slot_of}
+use Rattle.rv64_isa.specs.Programs.{code_base, slot_of}
+use Rattle.machine_model.specs.Objects.{program_of}
 use Rattle.hart_core.specs.Objects.{IsWithinLimits, most_locks}
 use Rattle.flow_graph.specs.declared.graph.Part.{Part}
 use Rattle.flow_graph.specs.Nodes.{Graph}

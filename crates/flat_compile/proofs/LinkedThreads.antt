@@ -9,7 +9,7 @@ use Rattle.rv64_isa.specs.declared.object.Slot.{Slot}
 use Rattle.rv64_isa.specs.declared.object.ThreadMarks.{ThreadMarks}
 use Rattle.rv64_link.specs.LabelledCode.{most_words_of}
 use Rattle.rv64_link.specs.LinkedCode.{IsLinked, AreLinked}
-use Rattle.rv64_isa.specs.Executables.{node_marks, resume_marks}
+use Rattle.machine_model.specs.Executables.{node_marks, resume_marks}
 
 -- ---- How many words
 

@@ -7,8 +7,8 @@ use Rattle.std.specs.Global.{Global}
 use Rattle.std.proofs.lemmas.List.{length-map}
 use Rattle.std.proofs.lemmas.List.Elements.{All-head, All-tail, recursion_from_All}
 use Rattle.std.proofs.lemmas.Option.{none-some, same_Some, slice_get_within}
-use Rattle.ido_base.specs.declared.log.Log.{Log}
-use Rattle.ido_base.specs.declared.log.Log.TheVariants.{V1, V2}
+use Rattle.log_schemes.specs.declared.log.Log.{Log}
+use Rattle.log_schemes.specs.declared.log.Log.TheVariants.{V1, V2}
 use Rattle.ido_base.specs.declared.limits.TheConstants.{MOST_THREADS, MOST_CODE_WORDS}
 use Rattle.c_tree.specs.declared.language.Language.TheVariants.{Full}
 use Rattle.c_tree.specs.declared.language.TheConstants.{MOST_HELD}
@@ -18,12 +18,13 @@ use Rattle.c_tree.specs.Flats.{Flat, flat_of}
 use Rattle.c_tree.specs.LockDiscipline.{key_locals, lock_fault}
 use Rattle.c_tree.specs.LockNames.{Held, count_held, held_names, holds, lock_names}
 use Rattle.c_tree.specs.Values.{lock_number}
-use Rattle.rv64_isa.specs.declared.object.Code.{Code}
+use Rattle.machine_model.specs.declared.object.Code.{Code}
 use Rattle.rv64_isa.specs.declared.object.CodeItem.{CodeItem}
-use Rattle.rv64_isa.specs.declared.object.Object.{Object}
+use Rattle.machine_model.specs.declared.object.Object.{Object}
 use Rattle.rv64_isa.specs.declared.object.Marks.{Marks}
-use Rattle.rv64_isa.specs.Programs.{code_base, program_of}
-use Rattle.rv64_isa.specs.Executables.{resume_marks}
+use Rattle.rv64_isa.specs.Programs.{code_base}
+use Rattle.machine_model.specs.Objects.{program_of}
+use Rattle.machine_model.specs.Executables.{resume_marks}
 use Rattle.rv64_link.specs.LabelledCode.{most_words_of}
 use Rattle.rv64_link.specs.LinkedCode.{AreLinked}
 use Rattle.rv64_link.specs.links.Threads.{items_in}

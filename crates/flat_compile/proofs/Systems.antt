@@ -8,10 +8,11 @@ use Rattle.c_tree.specs.Flats as f
 use Rattle.c_tree.specs.WellFormed.{shape_of, initial_numbers}
 use Rattle.c_tree.specs.LockDiscipline.{IsDisciplined}
 use Rattle.rv64_isa.specs.declared.object.CodeItem.{CodeItem}
-use Rattle.rv64_isa.specs.declared.object.Object.{Object}
+use Rattle.machine_model.specs.declared.object.Object.{Object}
 use Rattle.rv64_isa.specs.declared.object.Marks.{Marks}
-use Rattle.rv64_isa.specs.Programs.{code_base, program_of}
-use Rattle.rv64_isa.specs.Executables.{Executable, executable_of}
+use Rattle.rv64_isa.specs.Programs.{code_base}
+use Rattle.machine_model.specs.Objects.{program_of}
+use Rattle.machine_model.specs.Executables.{Executable, executable_of}
 use Rattle.rv64_link.specs.LinkedCode.{AreLinked}
 use Rattle.memory_layout.specs.Variables.{AreInitial}
 use Rattle.flow_graph.specs.declared.graph.Part.{Part}

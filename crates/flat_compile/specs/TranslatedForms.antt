@@ -1,13 +1,13 @@
 -- What the machine runs for a flat form.
 use Rattle.std.specs.Prelude.{◌≡◌, List, length}
-use Rattle.ido_base.specs.declared.log.Log.{Log}
-use Rattle.ido_base.specs.declared.log.Log.TheVariants.{V2}
+use Rattle.log_schemes.specs.declared.log.Log.{Log}
+use Rattle.log_schemes.specs.declared.log.Log.TheVariants.{V2}
 use Rattle.c_tree.specs.Flats.{Flat}
-use Rattle.rv64_isa.specs.declared.object.Object.{Object}
+use Rattle.machine_model.specs.declared.object.Object.{Object}
 use Rattle.rv64_isa.specs.declared.object.Marks.{Marks}
 use Rattle.rv64_isa.specs.declared.object.CodeItem.{CodeItem}
 use Rattle.rv64_isa.specs.Programs.{code_base}
-use Rattle.rv64_isa.specs.Executables.{executable_of}
+use Rattle.machine_model.specs.Executables.{executable_of}
 use Rattle.rv64_link.specs.LinkedCode.{AreLinked}
 use Rattle.hart_core.specs.Objects.{IsWithinLimits}
 use Rattle.flow_graph.specs.declared.cuts.Cuts.{Cuts}

@@ -8,13 +8,14 @@ ghost use Rattle.flat_compile.specs.TranslatedForms.{IsTranslatedAs, IsResumable
 use crate::resumes::{Resume, resume_table};
 use flat_analysis::Analysis;
 use flow_graph::cuts::Cuts;
-use ido_base::log::Log;
 use ido_base::memory::OutOfMemory;
 use lock_discipline::laws::walk_is_discipline;
+use log_schemes::log::Log;
+use machine_model::object::Object;
+use object_link::link::link;
 use region_cutter::cut;
 use rv64_codegen::{Plan, emit};
-use rv64_isa::object::{Marks, Object};
-use rv64_link::link::link;
+use rv64_isa::object::Marks;
 use std::alloc::Global;
 
 /// An accepted program, compiled.

@@ -11,7 +11,7 @@ ghost use Rattle.thread_code.specs.Plans.{IsPlan, locks_held, set_before};
 ghost use Rattle.recovered_threads.specs.RecordDescriptions.{Codes};
 ghost use Rattle.rv64_codegen.specs.Plans.{plan_of};
 ghost use Rattle.rv64_codegen.specs.links.Threads.{gives};
-ghost use Rattle.rv64_isa.specs.Executables.{resume_marks};
+ghost use Rattle.machine_model.specs.Executables.{resume_marks};
 ghost use Rattle.flat_compile.specs.ResumePlaces.{is_known, IsFound, IsResumeTable, AreMarksOf, AreMarked};
 ghost use Rattle.flat_compile.specs.links.KnownLists.{known_lists};
 ghost use Rattle.flat_compile.specs.links.ResumePlacesByNode.{thread_in, AreKnowns, IsOwn, IsOwnNode, IsPastCall, IsBefore};

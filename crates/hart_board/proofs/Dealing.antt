@@ -3,7 +3,7 @@ use Rattle.std.proofs.Common.{◌≡◌, ℕ, zero, suc, ◌+◌, ◌<◌, List,
 use Rattle.std.specs.Prelude.{All}
 use Rattle.std.proofs.lemmas.List.{map-append, length-map}
 use Rattle.std.proofs.lemmas.List.Elements.{All-push}
-use Rattle.ido_base.specs.declared.event.Event.{Event}
+use Rattle.machine_events.specs.declared.event.Event.{Event}
 use Rattle.hart_board.specs.declared.board.Board.{Board}
 use Rattle.hart_board.specs.declared.core_turn.Ahead.{Ahead}
 use Rattle.hart_board.specs.declared.seat.Seat.{Seat}

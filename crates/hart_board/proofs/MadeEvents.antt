@@ -3,11 +3,11 @@ use Rattle.std.proofs.Common.{◌≡◌, ◌≢◌, ℕ, ◌+◌, ◌<◌, ◌�
 use Rattle.std.proofs.Common.{sym, ap, ◌∙◌, subst, inl, inr, ⊎_elim, arith, length-append, zero, suc, refl}
 use Rattle.std.proofs.lemmas.List.{append-nil, length-replicate, replicate-append-replicate}
 use mathlib.Core.List.{append_assoc}
-use Rattle.ido_base.specs.declared.event.Event.{Event}
-use Rattle.ido_base.specs.declared.event.Event.TheVariants.{Step, Evict, Crash, Start}
-use Rattle.ido_base.specs.declared.event.Reply.{Reply}
-use Rattle.ido_base.specs.declared.event.Reply.TheVariants.{Moved}
-use Rattle.ido_base.specs.Cores.{Behaviour, played, is_idle, EachMoves}
+use Rattle.machine_events.specs.declared.event.Event.{Event}
+use Rattle.machine_events.specs.declared.event.Event.TheVariants.{Step, Evict, Crash, Start}
+use Rattle.machine_events.specs.declared.event.Reply.{Reply}
+use Rattle.machine_events.specs.declared.event.Reply.TheVariants.{Moved}
+use Rattle.machine_events.specs.Cores.{Behaviour, played, is_idle, EachMoves}
 use Rattle.hart_board.specs.declared.core_turn.Quota.{Quota}
 use Rattle.hart_board.specs.declared.core_turn.Made.{Made}
 use Rattle.hart_board.specs.Journals.{last_reply, IsOwn}

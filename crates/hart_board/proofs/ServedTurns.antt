@@ -1,9 +1,9 @@
 -- What a seat in its turn may do, and what it knows after it.
 use Rattle.std.proofs.Common.{◌≡◌, ℕ, ◌+◌, ◌≤◌, List, [], ◌∷◌, ◌++◌, length, Some, None, Option, sym, refl, ap, ◌∙◌, subst, arith, length-append}
-use Rattle.ido_base.specs.declared.event.Event.{Event}
-use Rattle.ido_base.specs.declared.event.Event.TheVariants.{Step, Evict, Crash, Start}
-use Rattle.ido_base.specs.declared.machine.Core.{Ghosts}
-use Rattle.ido_base.specs.Cores.{Behaviour, IsValid}
+use Rattle.machine_events.specs.declared.event.Event.{Event}
+use Rattle.machine_events.specs.declared.event.Event.TheVariants.{Step, Evict, Crash, Start}
+use Rattle.machine_events.specs.declared.machine.Core.{Ghosts}
+use Rattle.machine_events.specs.Cores.{Behaviour, IsValid}
 use Rattle.atomic_table.specs.Table.{Me}
 use Rattle.hart_board.specs.declared.journal.Entry.{Entry}
 use Rattle.hart_board.specs.declared.views.Known.{Known}

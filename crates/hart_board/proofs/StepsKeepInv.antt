@@ -12,7 +12,7 @@ use native.Mathlib.Decide.{ℕ_discrete}
 use lib.ListN.{get_elem?}
 use lib.Seq.{set-get_or}
 use mathlib.Core.List.{IsPrefix}
-use Rattle.ido_base.specs.declared.event.Event.{Event}
+use Rattle.machine_events.specs.declared.event.Event.{Event}
 use Rattle.atomic_table.specs.Table.{State, Me, step, keeps, takes, gives, stepped, rest, Allows}
 use Rattle.atomic_table.proofs.Lists.{at_set, set_else, one_turn}
 use Rattle.hart_board.specs.declared.journal.Entry.{Entry}

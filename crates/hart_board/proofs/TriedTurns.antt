@@ -2,7 +2,7 @@
 use Rattle.std.proofs.Common.{◌≡◌, ◌≢◌, ℕ, ◌%◌, ◌^◌, ◌<◌, List, [], ◌∷◌, ◌++◌, length, true}
 use Rattle.std.proofs.Common.{false, Some, None, Option, sym, refl, ap, ◌∙◌, subst, arith, eq-eqb}
 use mathlib.Core.List.{IsPrefix, append_assoc}
-use Rattle.ido_base.specs.declared.event.Event.{Event}
+use Rattle.machine_events.specs.declared.event.Event.{Event}
 use Rattle.atomic_table.specs.Table.{Me}
 use Rattle.hart_board.specs.declared.journal.Entry.{Entry}
 use Rattle.hart_board.specs.declared.views.Terms.{Terms}
@@ -16,7 +16,7 @@ use Rattle.hart_board.specs.declared.seat.Turn.{Turn}
 use Rattle.hart_board.specs.declared.seat.Turn.TheVariants as turn
 use Rattle.hart_board.specs.Journals.{Play, events_of, entries_by, made_by, IsLegal}
 use Rattle.hart_board.specs.CoreTurns.{IsWithin, made_entry}
-use Rattle.ido_base.specs.Cores.{Behaviour}
+use Rattle.machine_events.specs.Cores.{Behaviour}
 use Rattle.hart_board.specs.declared.board.Board.{Board}
 use Rattle.hart_board.specs.BoardRule.{times, Has, GoesOn, with_seen, with_turn, play_of}
 use Rattle.hart_board.specs.Seats.{opening_core, IsSeatOf, IsSeatAt, WaitsOn, rules_of, seen_in, Represents, HasTicket}

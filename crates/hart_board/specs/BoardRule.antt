@@ -5,7 +5,7 @@ use Rattle.std.specs.Prelude.{drop, Bool, true, false, All, ◌==◌, Some, None
 use mathlib.Core.Option.{some, none}
 use mathlib.Core.List.{IsPrefix}
 use lib.ListN.{get_elem?}
-use Rattle.ido_base.specs.declared.event.Event.{Event}
+use Rattle.machine_events.specs.declared.event.Event.{Event}
 use Rattle.atomic_table.specs.Table.{State, Me, Step}
 use Rattle.hart_board.specs.declared.journal.Entry.{Entry}
 use Rattle.hart_board.specs.declared.views.Terms.{Terms}
@@ -13,7 +13,7 @@ use Rattle.hart_board.specs.declared.views.Past.{Past}
 use Rattle.hart_board.specs.declared.views.Known.{Known}
 use Rattle.hart_board.specs.declared.views.View.{View}
 use Rattle.hart_board.specs.declared.views.View.TheVariants.{Spent, Seated}
-use Rattle.ido_base.specs.Cores.{Behaviour}
+use Rattle.machine_events.specs.Cores.{Behaviour}
 use Rattle.hart_board.specs.CoreTurns.{IsPlayed}
 use Rattle.hart_board.specs.Journals.{play_from, Play, events_of, entries_by, last_reply, IsLegal}
 

@@ -1,8 +1,8 @@
 -- What a turn does to a core: one event, made again and again.
 use Rattle.std.specs.Prelude.{◌≡◌, ◌⊎◌, ◌↔◌, ℕ, ◌+◌, ◌<◌, ◌≤◌, List, [], ◌∷◌, ◌++◌, length, replicate, true, false, Option, Some, None}
-use Rattle.ido_base.specs.declared.event.Event.{Event}
-use Rattle.ido_base.specs.declared.event.Reply.{Reply}
-use Rattle.ido_base.specs.Cores.{Behaviour, played, is_idle}
+use Rattle.machine_events.specs.declared.event.Event.{Event}
+use Rattle.machine_events.specs.declared.event.Reply.{Reply}
+use Rattle.machine_events.specs.Cores.{Behaviour, played, is_idle}
 use Rattle.hart_board.specs.declared.journal.Entry.{Entry}
 use Rattle.hart_board.specs.declared.core_turn.Ahead.{Ahead}
 use Rattle.hart_board.specs.declared.core_turn.Quota.{Quota}

@@ -1,9 +1,9 @@
 -- Journals of turns, and which of them are legal.
 use Rattle.std.specs.Prelude.{◌≡◌, ◌⊎◌, ◌↔◌, ℕ, ◌+◌, ◌<◌, ◌≤◌, List, [], ◌∷◌, ◌++◌, length, Bool, true, false, All, ◌==◌, Option, Some, None, if◌then◌else◌}
-use Rattle.ido_base.specs.declared.event.Event.{Event}
-use Rattle.ido_base.specs.declared.event.Event.TheVariants.{Step, Evict, Crash, Start}
-use Rattle.ido_base.specs.declared.event.Reply.{Reply}
-use Rattle.ido_base.specs.Cores.{Behaviour, played, is_idle}
+use Rattle.machine_events.specs.declared.event.Event.{Event}
+use Rattle.machine_events.specs.declared.event.Event.TheVariants.{Step, Evict, Crash, Start}
+use Rattle.machine_events.specs.declared.event.Reply.{Reply}
+use Rattle.machine_events.specs.Cores.{Behaviour, played, is_idle}
 use Rattle.hart_board.specs.declared.journal.Entry.{Entry}
 
 -- what a core does from here on: its behaviour, played on from the events that it has had

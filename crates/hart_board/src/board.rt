@@ -10,12 +10,12 @@ ghost use Rattle.hart_board.specs.declared.views.View.TheVariants.{Seated};
 ghost use Rattle.hart_board.specs.Journals.{IsTurn, events_of, IsOwn};
 ghost use Rattle.hart_board.specs.CoreTurns.{IsPlayed, RunsIn, TurnGives, events_made};
 ghost use Rattle.hart_board.specs.BoardRule.{drew, looked, saw, passed, turn_of, play_of, IsPlayOf, Has, met, beside, Closed};
-ghost use Rattle.ido_base.specs.Cores.{IsValid};
+ghost use Rattle.machine_events.specs.Cores.{IsValid};
 
 use crate::core_turn::{Ahead, Made, Quota, take_turn};
 use crate::rule::{BoardTable, Draws, Looks, Meets, Notes, Passes, Place, Sees};
-use ido_base::event::Event;
-use ido_base::machine::Core;
+use machine_events::event::Event;
+use machine_events::machine::Core;
 
 /// A core at which seats take turns.
 pub struct Board<C: Core> {

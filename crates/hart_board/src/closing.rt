@@ -9,7 +9,7 @@ ghost use Rattle.hart_board.specs.links.Gathered.{Gathers};
 use crate::board::{Board, close, meet};
 use crate::rule::{BoardTable, Place};
 use crate::seat::Seat;
-use ido_base::machine::Core;
+use machine_events::machine::Core;
 
 impl<C: Core> Board<C> {
     /// The core, with so many events of each seat, in the order in which the seats are given.

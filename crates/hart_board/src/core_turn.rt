@@ -1,12 +1,12 @@
 //! A turn at a core: one event, made again and again.
 ghost use Rattle.std.specs.Prelude.{◌≡◌, ◌+◌, ◌<◌, ◌≤◌, ◌↔◌, [], ℕ, length, replicate, true, Some, MatchOption};
 ghost use Rattle.hart_board.specs.CoreTurns.{IsPlayed, IsDone, Makes, TurnGives, RunsAhead, RunsIn, events_made};
-ghost use Rattle.ido_base.specs.declared.event.Event.TheVariants.{Step};
+ghost use Rattle.machine_events.specs.declared.event.Event.TheVariants.{Step};
 ghost use Rattle.hart_board.specs.Journals.{IsOwn};
-ghost use Rattle.ido_base.specs.Cores.{IsValid, is_idle};
+ghost use Rattle.machine_events.specs.Cores.{IsValid, is_idle};
 
-use ido_base::event::{Event, Reply};
-use ido_base::machine::Core;
+use machine_events::event::{Event, Reply};
+use machine_events::machine::Core;
 
 /// Events at most that a turn makes one by one after its first, however many steps it has adopted. A short section has fewer.
 const ONE_BY_ONE: u64 = 96;

@@ -6,7 +6,7 @@ ghost use Rattle.hart_board.specs.CoreTurns.{RunsIn};
 
 use crate::board::{Board, meet};
 use crate::seat::{Note, Seat};
-use ido_base::machine::Core;
+use machine_events::machine::Core;
 
 impl<C: Core> Board<C> {
     /// What the seat has seen, for another one.

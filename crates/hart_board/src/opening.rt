@@ -12,8 +12,8 @@ use crate::rule::{DealsFirst, Place};
 use crate::seat::Seat;
 use crate::views::Terms;
 use atomic_table::{Refused, Table};
-use ido_base::machine::Core;
 use ido_base::memory::OutOfMemory;
+use machine_events::machine::Core;
 use std::alloc::Global;
 use std::snapshot::Snapshot;
 

@@ -1,7 +1,7 @@
 //! The rule of a board, and what each step at it tells.
 use crate::views::{Terms, View};
 use atomic_table::{Join, Play, Seat, Split, Table, TableRule};
-use ido_base::machine::Core;
+use machine_events::machine::Core;
 use std::alloc::Global;
 use std::marker::PhantomData;
 

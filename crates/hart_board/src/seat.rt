@@ -4,7 +4,7 @@ ghost use Rattle.hart_board.specs.Seats.{number};
 
 use crate::core_turn::Ahead;
 use crate::rule::Place;
-use ido_base::event::Reply;
+use machine_events::event::Reply;
 
 /// A seat of a board, whose hart has its number. It takes no turns but in calls of that board.
 #[derive(Drop)]

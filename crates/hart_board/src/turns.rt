@@ -1,7 +1,7 @@
 //! Turns of seats.
 ghost use Rattle.std.specs.Prelude.{◌≡◌, ◌<◌, ◌≤◌, ◌%◌, ◌^◌, ◌++◌, ◌∷◌, [], ℕ, Some};
-ghost use Rattle.ido_base.specs.declared.event.Event.TheVariants.{Step, Evict};
-ghost use Rattle.ido_base.specs.Cores.{IsValid};
+ghost use Rattle.machine_events.specs.declared.event.Event.TheVariants.{Step, Evict};
+ghost use Rattle.machine_events.specs.Cores.{IsValid};
 ghost use Rattle.hart_board.specs.declared.views.Known.{Known};
 ghost use Rattle.hart_board.specs.BoardRule.{play_of, IsPlayOf, with_turn};
 ghost use Rattle.hart_board.specs.Journals.{IsOwn, IsLegal};
@@ -11,8 +11,8 @@ ghost use Rattle.hart_board.specs.Seats.{Represents, IsInReach, IsInTurn, IsSeat
 use crate::board::Board;
 use crate::core_turn::{Made, Quota, run_ahead};
 use crate::seat::{Seat, TryTurn, Turn};
-use ido_base::event::Event;
-use ido_base::machine::Core;
+use machine_events::event::Event;
+use machine_events::machine::Core;
 use std::sync::Wait;
 use std::thread::yield_now;
 

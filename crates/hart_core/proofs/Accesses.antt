@@ -2,19 +2,20 @@
 use Rattle.std.proofs.Common.{◌≡◌, ℕ, ◌/◌, ◌<◌, ◌≤◌, List, [], ◌∷◌, ◌++◌, length, Option, Some, None, Bool}
 use Rattle.std.proofs.Common.{true, false, ◌==◌, nat_lt, refl, sym, ◌∙◌, ap, subst, arith, if◌then◌else◌}
 use Rattle.std.proofs.lemmas.Bool.Decides.{nat_tests}
-use Rattle.ido_base.specs.declared.event.Reply.TheVariants.{Moved, Drained, Stuck}
-use Rattle.ido_base.specs.declared.event.Cause.{Cause}
-use Rattle.ido_base.specs.declared.event.Cause.TheVariants.{Outside, Unaligned}
-use Rattle.ido_base.specs.Layout.{in_range, aligned, byte_number, line_bytes}
+use Rattle.machine_events.specs.declared.event.Reply.TheVariants.{Moved, Drained, Stuck}
+use Rattle.machine_events.specs.declared.event.Cause.{Cause}
+use Rattle.machine_events.specs.declared.event.Cause.TheVariants.{Outside, Unaligned}
+use Rattle.ido_base.specs.Layout.{aligned, byte_number, line_bytes}
+use Rattle.log_schemes.specs.Layout.{in_range}
 use Rattle.ido_base.specs.Words.{Word, Entry, loaded, stored, drained, entry_of}
 use Rattle.line_memory.specs.declared.memory.LineMemory.{LineMemory}
 use Rattle.line_memory.specs.declared.queue.Queue.{Queue}
 use Rattle.line_memory.specs.links.Queues.{RepresentsQueue, queue_length}
 use Rattle.line_memory.specs.links.MemoryRepresentation.{Represents, Logs, logs_of}
 use Rattle.line_memory.proofs.Public.{RepresentsQueue-stored, RepresentsQueue-drained}
-use Rattle.rv64_isa.specs.declared.phase.Phase.{Phase}
+use Rattle.machine_model.specs.declared.phase.Phase.{Phase}
 use Rattle.rv64_isa.specs.Rows.{Loads, Stores, Cleans, Fences, next, written, load_result}
-use Rattle.rv64_isa.specs.Machine.{Hart as HartModel, World, Outcome, applied, access, stuck, moved, gone_on, drain_one, fenced, cleaned}
+use Rattle.machine_model.specs.Machine.{Hart as HartModel, World, Outcome, applied, access, stuck, moved, gone_on, drain_one, fenced, cleaned}
 use Rattle.hart_core.specs.declared.hart.Hart.{Hart}
 use Rattle.hart_core.specs.StepsOnParts.{Parts, PartsStand, PartsEnd, IsStep, logs_in}
 use Rattle.hart_core.specs.links.Refusals.{refusal}

@@ -3,19 +3,19 @@ use Rattle.std.proofs.Common.{◌≡◌, ◌≢◌, not, eqb, ℕ, zero, suc, �
 use Rattle.std.proofs.Common.{Option, Some, None, true, false, ◌==◌, refl, sym, ◌∙◌, ap, subst, arith}
 use Rattle.std.specs.Option.{option_eq}
 use Rattle.std.proofs.lemmas.Bool.Decides.{nat_tests}
-use Rattle.ido_base.specs.declared.event.Reply.{Reply}
-use Rattle.ido_base.specs.declared.event.Reply.TheVariants.{Moved, Waits, Stuck}
-use Rattle.ido_base.specs.declared.event.Cause.TheVariants.{Illegal, NoCode, NoLock, NotHeld, EndHolding, NoCall}
+use Rattle.machine_events.specs.declared.event.Reply.{Reply}
+use Rattle.machine_events.specs.declared.event.Reply.TheVariants.{Moved, Waits, Stuck}
+use Rattle.machine_events.specs.declared.event.Cause.TheVariants.{Illegal, NoCode, NoLock, NotHeld, EndHolding, NoCall}
 use Rattle.ido_base.specs.Locks.{is_held_by, least_held}
 use Rattle.line_memory.specs.declared.memory.LineMemory.{LineMemory}
 use Rattle.rv64_isa.specs.declared.instr.Instr.{Instr}
 use Rattle.rv64_isa.specs.declared.object.Slot.{Slot}
 use Rattle.rv64_isa.specs.declared.object.Slot.TheVariants.{Row, NoRow}
-use Rattle.rv64_isa.specs.declared.phase.Phase.{Phase}
-use Rattle.rv64_isa.specs.declared.phase.Phase.TheVariants.{Ended}
+use Rattle.machine_model.specs.declared.phase.Phase.{Phase}
+use Rattle.machine_model.specs.declared.phase.Phase.TheVariants.{Ended}
 use Rattle.rv64_isa.specs.Rows.{Effect, Calls, next, read, row}
 use Rattle.rv64_isa.specs.Programs.{fetched}
-use Rattle.rv64_isa.specs.Machine.{Hart as HartModel, World, Outcome, applied, called, acquired, released, ended, executed, hart_step, stuck, moved, gone_on}
+use Rattle.machine_model.specs.Machine.{Hart as HartModel, World, Outcome, applied, called, acquired, released, ended, executed, hart_step, stuck, moved, gone_on}
 use Rattle.hart_core.specs.declared.hart.Hart.{Hart}
 use Rattle.hart_core.specs.StepsOnParts.{Parts, PartsStand, PartsEnd, IsStep}
 use Rattle.hart_core.proofs.StepOutcomes.{same_end, changed_end}

@@ -1,12 +1,12 @@
 -- Ends of steps, by what has changed.
 use Rattle.std.proofs.Common.{◌≡◌, ℕ, zero, suc, List, [], ◌∷◌, slice_get, slice_set, Option, Some, refl, sym, ◌∙◌, ap}
 use Rattle.std.proofs.lemmas.List.{length-set}
-use Rattle.ido_base.specs.declared.event.Reply.{Reply}
+use Rattle.machine_events.specs.declared.event.Reply.{Reply}
 use Rattle.ido_base.specs.Words.{Word, Entry}
 use Rattle.line_memory.specs.declared.queue.Queue.{Queue}
 use Rattle.line_memory.specs.links.Queues.{RepresentsQueue}
 use Rattle.line_memory.specs.links.MemoryRepresentation.{Represents, Logs, logs_of}
-use Rattle.rv64_isa.specs.Machine.{Hart as HartModel, World}
+use Rattle.machine_model.specs.Machine.{Hart as HartModel, World}
 use Rattle.hart_core.specs.links.Harts.{RepresentsHart}
 use Rattle.hart_core.specs.StepsOnParts.{Parts, PartsStand, PartsEnd}
 

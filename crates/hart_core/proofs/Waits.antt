@@ -1,11 +1,12 @@
 -- Which steps of a hart that executes instructions are replied to as those of one that waits.
 use Rattle.std.proofs.Common.{◌≡◌, ℕ, ◌/◌, List, [], ◌∷◌, ◌++◌, slice_get, Option, Some, None, Bool}
 use Rattle.std.proofs.Common.{true, false, ◌==◌, ◌&&◌, if◌then◌else◌, refl, ◌∙◌, nat_lt, length}
-use Rattle.ido_base.specs.declared.event.Cause.TheVariants.{Outside, Unaligned, NoCall}
-use Rattle.ido_base.specs.Cores.{is_idle}
+use Rattle.machine_events.specs.declared.event.Cause.TheVariants.{Outside, Unaligned, NoCall}
+use Rattle.machine_events.specs.Cores.{is_idle}
 use Rattle.ido_base.specs.Words.{Entry, entry_of, loaded, stored}
 use Rattle.ido_base.specs.Locks.{is_held_by, least_held}
-use Rattle.ido_base.specs.Layout.{in_range, aligned, byte_number, line_bytes}
+use Rattle.ido_base.specs.Layout.{aligned, byte_number, line_bytes}
+use Rattle.log_schemes.specs.Layout.{in_range}
 use Rattle.rv64_isa.specs.declared.instr.Instr.{Instr}
 use Rattle.rv64_isa.specs.declared.instr.Instr.TheVariants.{Lui, Auipc, Jal, Jalr, Branch, Load, Store, OpImmediate}
 use Rattle.rv64_isa.specs.declared.instr.Instr.TheVariants.{ShiftImmediate, ShiftImmediateWord, Op, CboClean, Fence, Ecall}
@@ -13,8 +14,8 @@ use Rattle.rv64_isa.specs.declared.object.Slot.{Slot}
 use Rattle.rv64_isa.specs.declared.object.Slot.TheVariants.{Row, NoRow}
 use Rattle.rv64_isa.specs.Rows.{Effect, Continues, Loads, Stores, Cleans, Fences, Calls, read, row, written, load_result}
 use Rattle.rv64_isa.specs.Programs.{fetched}
-use Rattle.rv64_isa.specs.Machine.{Hart, World, Outcome, access, acquired, released, ended, called, cleaned, fenced}
-use Rattle.rv64_isa.specs.Machine.{drain_one, moved, gone_on, stuck, applied, executed, hart_step, queue_limit}
+use Rattle.machine_model.specs.Machine.{Hart, World, Outcome, access, acquired, released, ended, called, cleaned, fenced}
+use Rattle.machine_model.specs.Machine.{drain_one, moved, gone_on, stuck, applied, executed, hart_step, queue_limit}
 use Rattle.hart_core.specs.links.Waits.{is_held, asks_held, waits_at, would_wait}
 
 -- a choice of two outcomes that aren't idle

@@ -1,9 +1,9 @@
 -- What a machine can run, and where a program's threads begin.
 use Rattle.std.specs.Prelude.{◌≡◌, ℕ, ◌%◌, ◌≤◌, length, All}
 use Rattle.ido_base.specs.declared.limits.TheConstants.{MOST_THREADS, MOST_CODE_WORDS, MOST_LOCKS, MOST_MUTEXES, MOST_VARIABLE_BYTES}
-use Rattle.ido_base.specs.declared.log.Log.{Log}
-use Rattle.ido_base.specs.declared.log.Log.TheVariants.{V1, V2}
-use Rattle.rv64_isa.specs.declared.object.Object.{Object}
+use Rattle.log_schemes.specs.declared.log.Log.{Log}
+use Rattle.log_schemes.specs.declared.log.Log.TheVariants.{V1, V2}
+use Rattle.machine_model.specs.declared.object.Object.{Object}
 
 -- how many locks a machine has at most, where threads log so: as many as a mask has bits, or the arrays of a program may have
 abbrev pub most_locks : Log → ℕ

@@ -1,14 +1,14 @@
 -- What a step does to the parts of a machine, by what it does to the world that they represent.
 -- Which world the parts represent begins with a clause of `Machine::start` and goes on with each step.
 use Rattle.std.specs.Prelude.{◌≡◌, ℕ, List, length, slice_get, slice_set, Option, Some}
-use Rattle.ido_base.specs.declared.event.Reply.{Reply}
+use Rattle.machine_events.specs.declared.event.Reply.{Reply}
 use Rattle.ido_base.specs.Words.{Entry}
 use Rattle.line_memory.specs.declared.memory.LineMemory.{LineMemory}
 use Rattle.line_memory.specs.declared.queue.Queue.{Queue}
 use Rattle.line_memory.specs.links.Queues.{RepresentsQueue}
 use Rattle.line_memory.specs.links.MemoryRepresentation.{Represents, Logs, logs_of}
-use Rattle.rv64_isa.specs.declared.phase.Phase.{Phase}
-use Rattle.rv64_isa.specs.Machine.{Hart as HartModel, World, Outcome}
+use Rattle.machine_model.specs.declared.phase.Phase.{Phase}
+use Rattle.machine_model.specs.Machine.{Hart as HartModel, World, Outcome}
 use Rattle.hart_core.specs.declared.hart.Hart.{Hart}
 use Rattle.hart_core.specs.links.Harts.{RepresentsHart}
 

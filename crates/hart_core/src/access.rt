@@ -1,20 +1,21 @@
 //! Loads, stores, cleans and fences of a hart.
 ghost use Rattle.std.specs.Prelude.{◌≡◌, ℕ, ◌+◌, ◌<◌, ◌≤◌, ◌^◌, List, Option, IfNone, IsTrue};
-ghost use Rattle.ido_base.specs.Layout.{in_range as is_in_range, aligned as is_aligned};
+ghost use Rattle.ido_base.specs.Layout.{aligned as is_aligned};
+ghost use Rattle.log_schemes.specs.Layout.{in_range as is_in_range};
 ghost use Rattle.line_memory.specs.Access.{is_width};
 ghost use Rattle.line_memory.specs.links.MemoryRepresentation.{log_in, threads_of, logs_of, stores_of};
-ghost use Rattle.rv64_isa.specs.declared.phase.Phase.{Phase};
+ghost use Rattle.machine_model.specs.declared.phase.Phase.{Phase};
 ghost use Rattle.rv64_isa.specs.Rows.{Effect, Loads, Stores, Cleans, Fences, load_bytes, load_signed, store_bytes};
-ghost use Rattle.rv64_isa.specs.Machine.{applied};
+ghost use Rattle.machine_model.specs.Machine.{applied};
 ghost use Rattle.line_memory.specs.declared.memory.LineMemory.{LineMemory};
 ghost use Rattle.hart_core.specs.StepsOnParts.{Parts, IsStep};
 ghost use Rattle.hart_core.specs.links.Refusals.{refusal};
 
 use crate::hart::Hart;
 use crate::signs;
-use ido_base::event::{Cause, Reply};
 use line_memory::memory::LineMemory;
 use line_memory::{aligned, full};
+use machine_events::event::{Cause, Reply};
 use rv64_isa::field::Register;
 use rv64_isa::instr::{LoadKind, StoreKind};
 

@@ -2,17 +2,17 @@
 ghost use Rattle.std.specs.Prelude.{◌≡◌, ◌⊎◌, ℕ, List, Option, length, slice_get};
 ghost use Rattle.ido_base.specs.Locks.{is_held_by, least_held};
 ghost use Rattle.line_memory.specs.declared.memory.LineMemory.{LineMemory};
-ghost use Rattle.rv64_isa.specs.declared.phase.Phase.{Phase};
-ghost use Rattle.rv64_isa.specs.declared.phase.Phase.TheVariants.{Ended};
+ghost use Rattle.machine_model.specs.declared.phase.Phase.{Phase};
+ghost use Rattle.machine_model.specs.declared.phase.Phase.TheVariants.{Ended};
 ghost use Rattle.rv64_isa.specs.Rows.{Effect, Calls, read};
-ghost use Rattle.rv64_isa.specs.Machine.{acquired, released, ended, applied};
+ghost use Rattle.machine_model.specs.Machine.{acquired, released, ended, applied};
 ghost use Rattle.hart_core.specs.StepsOnParts.{Parts, IsStep};
 ghost use Rattle.hart_core.specs.links.Waits.{asks_held};
 
 use crate::hart::Hart;
-use ido_base::event::{Cause, Reply};
 use lock_table::LockTable;
-use rv64_isa::phase::Phase;
+use machine_events::event::{Cause, Reply};
+use machine_model::phase::Phase;
 
 /// The register that says what an ECALL asks for.
 const ASKED: usize = 17;

@@ -1,13 +1,15 @@
 //! Code as a machine runs it: decoded once.
 ghost use Rattle.std.specs.Prelude.{◌≡◌, ℕ, ◌+◌, ◌*◌, ◌<◌, ◌≤◌, List, map, length, IfOk, sum_by};
 ghost use Rattle.ido_base.specs.declared.limits.TheConstants.{MOST_THREADS};
-ghost use Rattle.rv64_isa.specs.Programs.{slot_of, program_of, code_start, fetched};
+ghost use Rattle.rv64_isa.specs.Programs.{slot_of, code_start, fetched};
+ghost use Rattle.machine_model.specs.Objects.{program_of};
 ghost use Rattle.hart_core.specs.Objects.{IsWithinLimits};
 ghost use Rattle.hart_core.specs.links.Starts.{AreStarts};
 
 use ido_base::limits::CODE_BASE;
 use ido_base::memory::OutOfMemory;
-use rv64_isa::object::{Object, Slot};
+use machine_model::object::Object;
+use rv64_isa::object::Slot;
 use std::alloc::Global;
 use std::marker::Model;
 

@@ -2,10 +2,10 @@
 ghost use Rattle.std.specs.Prelude.{◌≡◌, ◌⊎◌, ℕ, ◌+◌, ◌^◌, ◌<◌, ◌≤◌, List, Option, length};
 ghost use Rattle.line_memory.specs.declared.memory.LineMemory.{LineMemory};
 ghost use Rattle.line_memory.specs.links.MemoryRepresentation.{threads_of, logs_of, stores_of};
-ghost use Rattle.rv64_isa.specs.declared.phase.Phase.{Phase};
-ghost use Rattle.rv64_isa.specs.declared.phase.Phase.TheVariants.{Ended};
+ghost use Rattle.machine_model.specs.declared.phase.Phase.{Phase};
+ghost use Rattle.machine_model.specs.declared.phase.Phase.TheVariants.{Ended};
 ghost use Rattle.rv64_isa.specs.Rows.{Effect as Meaning, Continues, written};
-ghost use Rattle.rv64_isa.specs.Machine.{applied, hart_step};
+ghost use Rattle.machine_model.specs.Machine.{applied, hart_step};
 ghost use Rattle.hart_core.specs.Effects.{effect_in};
 ghost use Rattle.hart_core.specs.StepsOnParts.{Parts, IsStep};
 ghost use Rattle.hart_core.specs.links.Waits.{would_wait};
@@ -15,13 +15,13 @@ use crate::effects::Effect;
 use crate::hart::Hart;
 use crate::program::Program;
 use crate::{calls, rows};
-use ido_base::event::{Cause, Reply};
 use line_memory::memory::LineMemory;
 use lock_table::LockTable;
+use machine_events::event::{Cause, Reply};
+use machine_model::phase::Phase;
 use rv64_isa::field::Register;
 use rv64_isa::instr::Instr;
 use rv64_isa::object::Slot;
-use rv64_isa::phase::Phase;
 
 /// Writes a register, and goes on at the pc.
 fn write_and_go(register: Register, value: u64, pc: u64, hart: &mut Hart) -> Reply

@@ -3,8 +3,8 @@ use Rattle.std.proofs.Common.{◌≡◌, ℕ, ◌+◌, ◌<◌, List, [], ◌∷
 use Rattle.std.specs.Prelude.{All}
 use Rattle.std.proofs.lemmas.List.{length-map}
 use Rattle.std.proofs.lemmas.List.Elements.{All-nil, All-cons, All-head, All-tail}
-use Rattle.ido_base.specs.declared.event.Event.{Event}
-use Rattle.ido_base.specs.Cores.{Behaviour}
+use Rattle.machine_events.specs.declared.event.Event.{Event}
+use Rattle.machine_events.specs.Cores.{Behaviour}
 use Rattle.hart_board.specs.declared.board.Board.{Board}
 use Rattle.hart_board.specs.declared.core_turn.Ahead.{Ahead}
 use Rattle.hart_board.specs.declared.journal.Entry.{Entry}

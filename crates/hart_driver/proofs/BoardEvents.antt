@@ -5,8 +5,8 @@ use Rattle.std.specs.Prelude.{All, count_by}
 use Rattle.std.proofs.lemmas.List.Elements.{All-nil, All-cons, All-head, All-tail}
 use Rattle.std.proofs.lemmas.List.Sums.{sum_by-append, sum_by-cons}
 use mathlib.Core.List.{append_assoc}
-use Rattle.ido_base.specs.declared.event.Event.{Event}
-use Rattle.ido_base.specs.declared.event.Event.TheVariants.{Step, Evict, Crash, Start}
+use Rattle.machine_events.specs.declared.event.Event.{Event}
+use Rattle.machine_events.specs.declared.event.Event.TheVariants.{Step, Evict, Crash, Start}
 use Rattle.hart_board.specs.declared.journal.Entry.{Entry}
 use Rattle.hart_board.specs.Journals.{Play, IsLegal, IsOwn, entries_by, events_of, made_by}
 use Rattle.hart_driver.specs.Legs.{is_event_of}

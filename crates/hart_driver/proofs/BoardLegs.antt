@@ -5,12 +5,12 @@ use Rattle.std.specs.Prelude.{All}
 use Rattle.std.proofs.lemmas.List.Elements.{All-nil, All-cons, All-head, All-tail}
 use Rattle.std.proofs.Math.Seq.{drop-append_seam}
 use mathlib.Core.List.{append_assoc}
-use Rattle.ido_base.specs.declared.event.Event.{Event}
-use Rattle.ido_base.specs.declared.event.Event.TheVariants.{Step, Evict, Crash}
-use Rattle.ido_base.specs.declared.event.Event.TheVariants as events
-use Rattle.ido_base.specs.declared.machine.Core.{Ghosts}
-use Rattle.ido_base.specs.Cores.{played}
-use Rattle.ido_base.proofs.Public.{played-append}
+use Rattle.machine_events.specs.declared.event.Event.{Event}
+use Rattle.machine_events.specs.declared.event.Event.TheVariants.{Step, Evict, Crash}
+use Rattle.machine_events.specs.declared.event.Event.TheVariants as events
+use Rattle.machine_events.specs.declared.machine.Core.{Ghosts}
+use Rattle.machine_events.specs.Cores.{played}
+use Rattle.machine_events.proofs.Public.{played-append}
 use Rattle.hart_board.specs.declared.journal.Entry.{Entry}
 use Rattle.hart_board.specs.CoreTurns.{IsPlayed}
 use Rattle.hart_board.specs.Journals.{IsOwn, IsTurn as IsTurnOf, entries_by, events_of, made_by, play_from}

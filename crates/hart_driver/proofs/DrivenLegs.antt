@@ -3,8 +3,8 @@ use Rattle.std.proofs.Common.{◌≡◌, refl, ℕ, ◌+◌, ◌<◌, List, [], 
 use Rattle.std.proofs.Common.{cond, Bool, sym, ap, ◌∙◌, arith, eq-eqb, ne_eqb, Option, Some, None}
 use Rattle.std.specs.Prelude.{MatchOption}
 use Rattle.std.proofs.lemmas.List.{append-nil}
-use Rattle.ido_base.specs.declared.event.Event.{Event}
-use Rattle.ido_base.specs.Cores.{Behaviour}
+use Rattle.machine_events.specs.declared.event.Event.{Event}
+use Rattle.machine_events.specs.Cores.{Behaviour}
 use Rattle.hart_board.specs.BoardRule.{numbers_from}
 use Rattle.hart_driver.specs.declared.start.Start.{Start}
 use Rattle.hart_driver.specs.declared.stop.Stop.{Stop}

@@ -2,7 +2,7 @@
 use Rattle.std.proofs.Common.{◌≡◌, ℕ, suc, ◌<◌, List, [], ◌∷◌, ◌++◌, length, get_or, refl, arith, ap, ◌∙◌, subst}
 use Rattle.hart_board.specs.declared.board.Board.{Board}
 use Rattle.hart_board.specs.declared.core_turn.Ahead.{Ahead}
-use Rattle.ido_base.specs.declared.event.Event.{Event}
+use Rattle.machine_events.specs.declared.event.Event.{Event}
 use Rattle.std.specs.Prelude.{Option}
 use Rattle.hart_driver.specs.declared.running.Part.{Part}
 use Rattle.hart_driver.specs.links.Parts.{HasRun, HaveRun, IsEvictor, IsHarts}

@@ -7,12 +7,12 @@ use Rattle.std.proofs.lemmas.List.{get_or-set_same, get_or-set_other, length-set
 use Rattle.std.proofs.lemmas.List.Sums.{sum_by_push}
 use Rattle.std.proofs.Math.Seq.{drop-append_seam}
 use mathlib.Core.List.{append_assoc}
-use Rattle.ido_base.specs.declared.event.Event.{Event}
-use Rattle.ido_base.specs.declared.event.Event.TheVariants.{Step, Evict, Crash}
-use Rattle.ido_base.specs.declared.event.Event.TheVariants as events
-use Rattle.ido_base.specs.declared.machine.Core.{Ghosts}
-use Rattle.ido_base.specs.Cores.{IsValid, played}
-use Rattle.ido_base.proofs.Public.{played-append}
+use Rattle.machine_events.specs.declared.event.Event.{Event}
+use Rattle.machine_events.specs.declared.event.Event.TheVariants.{Step, Evict, Crash}
+use Rattle.machine_events.specs.declared.event.Event.TheVariants as events
+use Rattle.machine_events.specs.declared.machine.Core.{Ghosts}
+use Rattle.machine_events.specs.Cores.{IsValid, played}
+use Rattle.machine_events.proofs.Public.{played-append}
 use Rattle.hart_board.specs.CoreTurns.{IsPlayed}
 use Rattle.hart_driver.specs.declared.start.Start.{Start}
 use Rattle.hart_driver.specs.Legs.{AreTurns, Leg, has_ended, is_event_of, made, workers}

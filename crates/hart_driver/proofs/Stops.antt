@@ -4,9 +4,9 @@ use Rattle.std.proofs.Common.{inl, inr, ⊎_elim, subst, arith, eqb, eq-eqb, ne_
 use Rattle.std.specs.Prelude.{nat_lt, map}
 use Rattle.std.proofs.lemmas.Bool.{cases_eq, cases_lt, ltb-true}
 use Rattle.std.proofs.lemmas.List.{map-append}
-use Rattle.ido_base.specs.declared.event.Event.{Event}
-use Rattle.ido_base.specs.declared.event.Event.TheVariants.{Step, Evict, Crash, Start}
-use Rattle.ido_base.specs.Cores.{played}
+use Rattle.machine_events.specs.declared.event.Event.{Event}
+use Rattle.machine_events.specs.declared.event.Event.TheVariants.{Step, Evict, Crash, Start}
+use Rattle.machine_events.specs.Cores.{played}
 use Rattle.hart_board.specs.BoardRule.{numbers_from}
 use Rattle.hart_board.proofs.Public.{cut_more, numbers_more}
 use Rattle.hart_driver.specs.declared.stop.Stop.{Stop}

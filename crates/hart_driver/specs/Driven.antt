@@ -1,7 +1,7 @@
 -- What a leg of a core leaves.
 use Rattle.std.specs.Prelude.{◌≡◌, ℕ, ◌+◌, ◌-◌, List, length, map, Option, Some, None}
-use Rattle.ido_base.specs.declared.event.Event.{Event}
-use Rattle.ido_base.specs.Cores.{Behaviour, played}
+use Rattle.machine_events.specs.declared.event.Event.{Event}
+use Rattle.machine_events.specs.Cores.{Behaviour, played}
 use Rattle.hart_board.specs.BoardRule.{numbers_from}
 use Rattle.hart_board.specs.CoreTurns.{IsPlayed}
 use Rattle.hart_driver.specs.declared.stop.Stop.{Stop}

@@ -1,9 +1,9 @@
 -- A leg of a core's run: events of its workers, in whatever order, until each of them has a stop.
 use Rattle.std.specs.Prelude.{◌≡◌, ◌≢◌, ℕ, ◌+◌, ◌<◌, List, ◌∷◌, ◌++◌, length, count_by, Bool, false, nat_lt, ◌==◌, ◌&&◌, Option, Some, None}
 use Rattle.std.specs.Prelude.{if◌then◌else◌}
-use Rattle.ido_base.specs.declared.event.Event.{Event}
-use Rattle.ido_base.specs.declared.event.Event.TheVariants.{Step, Evict, Crash, Start}
-use Rattle.ido_base.specs.Cores.{Behaviour, played}
+use Rattle.machine_events.specs.declared.event.Event.{Event}
+use Rattle.machine_events.specs.declared.event.Event.TheVariants.{Step, Evict, Crash, Start}
+use Rattle.machine_events.specs.Cores.{Behaviour, played}
 use Rattle.hart_driver.specs.declared.stop.Stop.{Stop}
 use Rattle.hart_driver.specs.declared.stop.Stop.TheVariants.{Ended, Turns, Moment}
 

@@ -1,16 +1,16 @@
 //! What the caller does of a leg: rounds over the workers, until each of them has a stop.
 ghost use Rattle.std.specs.Prelude.{◌≡◌, ◌+◌, ◌<◌, ◌≤◌, ◌&&◌, [], length, nat_lt, None};
 ghost use Rattle.std.specs.Vec.{vec_capacity, vec_len};
-ghost use Rattle.ido_base.specs.Cores.{played};
+ghost use Rattle.machine_events.specs.Cores.{played};
 ghost use Rattle.hart_board.specs.CoreTurns.{IsPlayed};
 ghost use Rattle.hart_driver.specs.Legs.{made, stop_of, workers};
 ghost use Rattle.hart_driver.specs.links.UnderWay.{AreStops, IsNext, IsUnderWay, leg_from, since};
 
 use crate::start::Start;
 use crate::stop::Stop;
-use ido_base::event::Event;
-use ido_base::evictions::Evictions;
-use ido_base::machine::Core;
+use machine_events::event::Event;
+use machine_events::evictions::Evictions;
+use machine_events::machine::Core;
 
 /// The worker's hart has ended, or its recovery is done.
 fn has_ended<C: Core>(core: &C, worker: u32) -> bool

@@ -8,9 +8,9 @@ ghost use Rattle.hart_driver.specs.links.Parts.{CanRun, EndsIn, EvictsFrom, HasR
 
 use hart_board::board::Board;
 use hart_board::seat::{Seat, Turn};
-use ido_base::evictions::Evictions;
-use ido_base::machine::Core;
 use ido_outside::Gate;
+use machine_events::evictions::Evictions;
+use machine_events::machine::Core;
 use std::sync::Wait;
 use std::thread::{Threads, for_each_mut};
 

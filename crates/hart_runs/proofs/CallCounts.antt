@@ -1,13 +1,13 @@
 -- What is counted of a call.
 use Rattle.std.proofs.Common.{◌≡◌, ℕ, List, refl, ap, ◌∙◌, cond, Bool, true, false, Option, Some, None}
 use Rattle.std.specs.Prelude.{◌==◌, ◌&&◌, if◌then◌else◌}
-use Rattle.ido_base.specs.declared.event.Event.TheVariants.{Step}
+use Rattle.machine_events.specs.declared.event.Event.TheVariants.{Step}
 use Rattle.rv64_isa.specs.declared.instr.Instr.TheVariants.{Ecall}
 use Rattle.rv64_isa.specs.declared.object.Slot.{Slot}
-use Rattle.rv64_isa.specs.declared.phase.Phase.{Phase}
+use Rattle.machine_model.specs.declared.phase.Phase.{Phase}
 use Rattle.rv64_isa.specs.Rows.{Effect, Calls, row}
-use Rattle.rv64_isa.specs.Machine.{Hart, World, reply_to}
-use Rattle.rv64_isa.specs.Schedule.{has_moved, is_running, completing, effect_at, is_mark, is_point_store, is_fence, passes_mark, stores_point, finishes_fence}
+use Rattle.machine_model.specs.Machine.{Hart, World, reply_to}
+use Rattle.machine_model.specs.Schedule.{has_moved, is_running, completing, effect_at, is_mark, is_point_store, is_fence, passes_mark, stores_point, finishes_fence}
 use Rattle.hart_runs.specs.Calls.{IsAtCall}
 use Rattle.hart_runs.proofs.Worlds.{effect_is}
 

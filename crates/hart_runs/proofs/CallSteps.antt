@@ -2,17 +2,17 @@
 use Rattle.std.proofs.Common.{◌≡◌, ℕ, zero, suc, ◌+◌, List, [], ◌∷◌, refl, ap, arith, ◌∙◌, set, set-set, cond, Bool, true, false, Option, Some, None}
 use Rattle.std.specs.Prelude.{slice_get, not, is_none, ◌==◌, ◌&&◌}
 use Rattle.std.proofs.lemmas.Bool.{cond_both}
-use Rattle.ido_base.specs.declared.event.Event.TheVariants.{Step}
-use Rattle.ido_base.specs.declared.event.Reply.TheVariants.{Waits}
+use Rattle.machine_events.specs.declared.event.Event.TheVariants.{Step}
+use Rattle.machine_events.specs.declared.event.Reply.TheVariants.{Waits}
 use Rattle.ido_base.specs.Locks.{is_held_by, held_from, least_held, holds_none}
 use Rattle.rv64_isa.specs.declared.instr.Instr.TheVariants.{Ecall}
 use Rattle.rv64_isa.specs.declared.object.Slot.{Slot}
-use Rattle.rv64_isa.specs.declared.phase.Phase.{Phase}
-use Rattle.rv64_isa.specs.declared.phase.Phase.TheVariants.{Run, Done, Ended}
+use Rattle.machine_model.specs.declared.phase.Phase.{Phase}
+use Rattle.machine_model.specs.declared.phase.Phase.TheVariants.{Run, Done, Ended}
 use Rattle.rv64_isa.specs.Rows.{row}
-use Rattle.rv64_isa.specs.Machine.{Hart, World, Outcome, moved, with_hart, with_holder, gone_on, called}
-use Rattle.rv64_isa.specs.Machine.{acquired, released, ended, applied, over_after, done_if_over, happens}
-use Rattle.rv64_isa.proofs.Public.{get-set_same}
+use Rattle.machine_model.specs.Machine.{Hart, World, Outcome, moved, with_hart, with_holder, gone_on, called}
+use Rattle.machine_model.specs.Machine.{acquired, released, ended, applied, over_after, done_if_over, happens}
+use Rattle.machine_model.proofs.Public.{get-set_same}
 use Rattle.hart_runs.specs.Calls.{IsAtCall, lock_asked, phase_after}
 use Rattle.hart_runs.proofs.Worlds.{none_some, some_same, if_true, not_over, done_not_over, runs_by}
 

@@ -5,14 +5,14 @@ use Rattle.std.specs.Prelude.{◌==◌}
 use Rattle.std.specs.List.{list_any}
 use Rattle.std.proofs.lemmas.Bool.{cases_eq, cond_both}
 use Rattle.std.proofs.Math.ListN.{length-append}
-use Rattle.ido_base.specs.declared.event.Event.{Event}
-use Rattle.ido_base.specs.declared.event.Event.TheVariants.{Step, Evict, Crash, Start}
+use Rattle.machine_events.specs.declared.event.Event.{Event}
+use Rattle.machine_events.specs.declared.event.Event.TheVariants.{Step, Evict, Crash, Start}
 use Rattle.ido_base.specs.Words.{Entry}
 use Rattle.rv64_isa.specs.declared.object.Slot.{Slot}
 use Rattle.rv64_isa.specs.Rows.{Effect, Continues, Loads, Stores, Cleans, Fences, Calls}
-use Rattle.rv64_isa.specs.Machine.{Hart, World, after_event}
-use Rattle.rv64_isa.specs.Frames.{IsWellFormedWorld}
-use Rattle.rv64_isa.proofs.Public.{queues_stand}
+use Rattle.machine_model.specs.Machine.{Hart, World, after_event}
+use Rattle.machine_model.specs.Frames.{IsWellFormedWorld}
+use Rattle.machine_model.proofs.Public.{queues_stand}
 use Rattle.code_runs.specs.ComputingRuns.{LocalConfig}
 use Rattle.code_runs.specs.CodeTraces.{MarkedEnvironment, Observation, Mark, Does, outside, marked}
 use Rattle.hart_runs.specs.HartsOnRuns.{Agrees, IsRunningAt, IsOnTrace, OnRun}
@@ -20,7 +20,7 @@ use Rattle.hart_runs.specs.RunSteps.{Contents, Changes, GoesForward, Drains, cle
 use Rattle.hart_runs.specs.Laws.{IsOfOthers, stretch, IsOnSameTrace, IsNearer, AreCrashless, is_step_of, own_steps, AgreesOnTheFragment, ComesTo}
 use Rattle.hart_runs.proofs.RunStepEffects.{steps_go_on}
 use Rattle.hart_runs.proofs.OtherEventsKeepRuns.{others_keep_runs}
-use Rattle.rv64_isa.specs.Schedule.{KeepsOn}
+use Rattle.machine_model.specs.Schedule.{KeepsOn}
 
 -- ---- Cleans
 

@@ -5,17 +5,18 @@ use Rattle.std.specs.Prelude.{nat_lt, nat_le, ◌&&◌}
 use Rattle.std.proofs.lemmas.Bool.{cases_lt, cases_eq, and_parts, or_cases, ltb-true, ltb-false, leb-true, eqb-true}
 use Rattle.std.proofs.lemmas.List.{set_past}
 use Rattle.std.proofs.Math.ListN.{length-append, length-set}
-use Rattle.ido_base.specs.declared.log.Log.TheVariants.{V1, V2}
-use Rattle.ido_base.specs.declared.log.Log.{Log}
-use Rattle.ido_base.specs.declared.event.Event.TheVariants.{Step, Evict}
+use Rattle.log_schemes.specs.declared.log.Log.TheVariants.{V1, V2}
+use Rattle.log_schemes.specs.declared.log.Log.{Log}
+use Rattle.machine_events.specs.declared.event.Event.TheVariants.{Step, Evict}
 use Rattle.ido_base.specs.Words.{Word, Entry, word_at, live_value, last_position, with_value, with_part, part, loaded, stored}
-use Rattle.ido_base.specs.Layout.{line_bytes, log_lines, in_range, aligned, byte_number, word_count, variables_base, logs_base}
+use Rattle.ido_base.specs.Layout.{line_bytes, aligned, byte_number, variables_base, logs_base}
+use Rattle.log_schemes.specs.Layout.{log_lines, in_range, word_count}
 use Rattle.ido_base.specs.Growth.{IsPersisted, ArePersisted, AreEntries}
 use Rattle.ido_base.proofs.Public.{word_same, word_other, same_last, are_persisted_refl, write_backs_raise, evictions_raise, part_above, part_below}
 use Rattle.rv64_isa.specs.declared.object.Slot.{Slot}
 use Rattle.rv64_isa.specs.Rows.{Effect, Continues, Loads, Stores, Cleans, Fences, Calls}
-use Rattle.rv64_isa.specs.Machine.{World, happens, after_event}
-use Rattle.rv64_isa.specs.Frames.{IsWellFormedWorld}
+use Rattle.machine_model.specs.Machine.{World, happens, after_event}
+use Rattle.machine_model.specs.Frames.{IsWellFormedWorld}
 use Rattle.code_runs.specs.CodeTraces.{MarkedEnvironment}
 use Rattle.hart_runs.specs.HartsOnRuns.{is_access, is_width, LoadGives, Agrees, may_go, OnRun}
 use Rattle.hart_runs.specs.RunSteps.{Contents, Changes, GoesForward, Drains}

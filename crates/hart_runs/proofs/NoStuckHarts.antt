@@ -1,15 +1,15 @@
 -- Where no hart is stuck.
 use Rattle.std.proofs.Common.{◌≡◌, ◌≢◌, ◌⊎◌, inl, inr, ℕ, List, ap, sym, ◌∙◌, Bool, true, false, Option, Some, None, refl}
 use Rattle.std.specs.Prelude.{slice_get}
-use Rattle.ido_base.specs.declared.event.Event.TheVariants.{Step}
-use Rattle.ido_base.specs.declared.event.Reply.{Reply}
-use Rattle.ido_base.specs.declared.event.Reply.TheVariants.{Moved, Drained, Waits, Barrier, Still, Stuck, Device}
-use Rattle.ido_base.specs.declared.event.Cause.{Cause}
+use Rattle.machine_events.specs.declared.event.Event.TheVariants.{Step}
+use Rattle.machine_events.specs.declared.event.Reply.{Reply}
+use Rattle.machine_events.specs.declared.event.Reply.TheVariants.{Moved, Drained, Waits, Barrier, Still, Stuck, Device}
+use Rattle.machine_events.specs.declared.event.Cause.{Cause}
 use Rattle.rv64_isa.specs.declared.object.Slot.{Slot}
-use Rattle.rv64_isa.specs.declared.phase.Phase.{Phase}
-use Rattle.rv64_isa.specs.declared.phase.Phase.TheVariants.{Take, Wait, Resume, Run, Done, Ended}
-use Rattle.rv64_isa.specs.Machine.{World, Outcome, happens, reply_to}
-use Rattle.rv64_isa.specs.Schedule.{is_running}
+use Rattle.machine_model.specs.declared.phase.Phase.{Phase}
+use Rattle.machine_model.specs.declared.phase.Phase.TheVariants.{Take, Wait, Resume, Run, Done, Ended}
+use Rattle.machine_model.specs.Machine.{World, Outcome, happens, reply_to}
+use Rattle.machine_model.specs.Schedule.{is_running}
 use Rattle.hart_runs.specs.HartsOnRuns.{OnRun}
 use Rattle.hart_runs.specs.RunSteps.{GoesForward, Drains}
 use Rattle.hart_runs.specs.Calls.{IsAtCall, lock_asked, IsInPhase, TakesLocks, AwaitsOthers, IsWell}

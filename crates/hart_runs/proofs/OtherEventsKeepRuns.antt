@@ -1,15 +1,15 @@
 -- What other events leave, and runs one after the other.
 use Rattle.std.proofs.Common.{◌≡◌, ℕ, zero, suc, ◌+◌, ◌-◌, List, [], ◌++◌, length, refl, ap, arith, sym, ◌∙◌, subst, Some, zero-add, append_assoc}
 use Rattle.std.specs.Prelude.{slice_get}
-use Rattle.rv64_isa.proofs.Public.{log_stays}
-use Rattle.ido_base.specs.declared.log.Log.{Log}
-use Rattle.ido_base.specs.declared.event.Event.{Event}
-use Rattle.ido_base.specs.declared.event.Event.TheVariants.{Step, Evict, Crash, Start}
+use Rattle.machine_model.proofs.Public.{log_stays}
+use Rattle.log_schemes.specs.declared.log.Log.{Log}
+use Rattle.machine_events.specs.declared.event.Event.{Event}
+use Rattle.machine_events.specs.declared.event.Event.TheVariants.{Step, Evict, Crash, Start}
 use Rattle.rv64_isa.specs.declared.object.Slot.{Slot}
-use Rattle.rv64_isa.specs.declared.phase.Phase.TheVariants.{Run}
-use Rattle.rv64_isa.specs.Machine.{Hart, World, Outcome, moved, happens, after_event}
-use Rattle.rv64_isa.specs.Frames.{IsWellFormedWorld, Touches}
-use Rattle.rv64_isa.proofs.Public.{get-set_same, steps_touch}
+use Rattle.machine_model.specs.declared.phase.Phase.TheVariants.{Run}
+use Rattle.machine_model.specs.Machine.{Hart, World, Outcome, moved, happens, after_event}
+use Rattle.machine_model.specs.Frames.{IsWellFormedWorld, Touches}
+use Rattle.machine_model.proofs.Public.{get-set_same, steps_touch}
 use Rattle.code_runs.specs.ComputingRuns.{LocalConfig, config}
 use Rattle.code_runs.specs.CodeTraces.{MarkedEnvironment, Observation, Trace, Answers}
 use Rattle.code_runs.proofs.Public.{along, walk_answers}

@@ -2,17 +2,18 @@
 use Rattle.std.proofs.Common.{◌≡◌, ℕ, ◌+◌, ◌*◌, ◌/◌, ◌<◌, ◌≤◌, List, [], ◌∷◌, sym, subst, true}
 use Rattle.std.specs.Prelude.{length}
 use Rattle.std.proofs.lemmas.List.{append-nil}
-use Rattle.ido_base.specs.declared.event.Event.{Event}
-use Rattle.ido_base.specs.declared.event.Event.TheVariants.{Step, Evict, Crash, Start}
+use Rattle.machine_events.specs.declared.event.Event.{Event}
+use Rattle.machine_events.specs.declared.event.Event.TheVariants.{Step, Evict, Crash, Start}
 use Rattle.ido_base.specs.Words.{Word, Entry, word_at, last_position, entry_of, stored, drained}
-use Rattle.ido_base.specs.Layout.{in_range, byte_number}
+use Rattle.ido_base.specs.Layout.{byte_number}
+use Rattle.log_schemes.specs.Layout.{in_range}
 use Rattle.ido_base.specs.Growth.{AreChanged, PersistsThrough}
 use Rattle.ido_base.proofs.Public.{changed_refl, changed_by_persisted, stores_change, reach_stays, cleans_reach}
 use Rattle.rv64_isa.specs.declared.object.Slot.{Slot}
 use Rattle.rv64_isa.specs.Rows.{Effect, Continues, Loads, Stores, Cleans, Fences, Calls}
-use Rattle.rv64_isa.specs.Machine.{Hart, World, after_event}
-use Rattle.rv64_isa.specs.Frames.{IsWellFormedWorld}
-use Rattle.rv64_isa.proofs.Public.{steps_touch, evictions_touch}
+use Rattle.machine_model.specs.Machine.{Hart, World, after_event}
+use Rattle.machine_model.specs.Frames.{IsWellFormedWorld}
+use Rattle.machine_model.proofs.Public.{steps_touch, evictions_touch}
 use Rattle.hart_runs.specs.HartsOnRuns.{may_go, OnRun}
 use Rattle.hart_runs.specs.RunSteps.{Contents, Changes, GoesForward, Drains}
 use Rattle.hart_runs.specs.Laws.{IsOfOthers}

@@ -4,16 +4,16 @@ use Rattle.std.proofs.Common.{ap, arith, sym, ◌∙◌, subst, get_or, Bool, tr
 use Rattle.std.specs.Prelude.{slice_get, min, not, ◌==◌}
 use Rattle.std.proofs.lemmas.Bool.{cases_lt, cond_both, eqb-true}
 use Rattle.ido_base.specs.Words.{Word}
-use Rattle.ido_base.specs.declared.log.Log.TheVariants.{V1, V2}
-use Rattle.ido_base.specs.declared.log.Log.{Log}
-use Rattle.ido_base.specs.declared.event.Event.TheVariants.{Step}
-use Rattle.ido_base.specs.declared.event.Reply.TheVariants.{Still}
+use Rattle.log_schemes.specs.declared.log.Log.TheVariants.{V1, V2}
+use Rattle.log_schemes.specs.declared.log.Log.{Log}
+use Rattle.machine_events.specs.declared.event.Event.TheVariants.{Step}
+use Rattle.machine_events.specs.declared.event.Reply.TheVariants.{Still}
 use Rattle.ido_base.specs.Locks.{is_held_by, is_missing, has_lock, lesser, least_missing}
 use Rattle.rv64_isa.specs.declared.object.Slot.{Slot}
-use Rattle.rv64_isa.specs.declared.phase.Phase.{Phase}
-use Rattle.rv64_isa.specs.declared.phase.Phase.TheVariants.{Take, Wait, Resume, Run, Done, Ended}
-use Rattle.rv64_isa.specs.Machine.{Hart, World, moved, taken, waited, taking_from, is_taking, record_of}
-use Rattle.rv64_isa.specs.Machine.{durable_point, resume_of, resumed_register, resumed_registers, numbers_from, happens}
+use Rattle.machine_model.specs.declared.phase.Phase.{Phase}
+use Rattle.machine_model.specs.declared.phase.Phase.TheVariants.{Take, Wait, Resume, Run, Done, Ended}
+use Rattle.machine_model.specs.Machine.{Hart, World, moved, taken, waited, taking_from, is_taking, record_of}
+use Rattle.machine_model.specs.Machine.{durable_point, resume_of, resumed_register, resumed_registers, numbers_from, happens}
 use Rattle.ido_base.proofs.Public.{has_cases, has_first, has_later}
 use Rattle.hart_runs.specs.Calls.{IsInPhase, IsRecorded, TakesLocks, AwaitsOthers, ResumesHart}
 use Rattle.hart_runs.proofs.OtherEventsKeepRuns.{moved_harts_begin}

@@ -5,16 +5,17 @@ use Rattle.std.specs.Prelude.{slice_get, nat_lt, ◌==◌, if◌then◌else◌}
 use Rattle.std.specs.Option.{option_map}
 use Rattle.std.proofs.lemmas.Bool.{and_parts, cond_both, ltb-true, ltb-false}
 use Rattle.std.proofs.Math.ListN.{length-set}
-use Rattle.ido_base.specs.declared.log.Log.{Log}
-use Rattle.ido_base.specs.declared.event.Event.TheVariants.{Step}
-use Rattle.ido_base.specs.declared.event.Reply.TheVariants.{Moved, Drained}
-use Rattle.ido_base.specs.declared.event.Cause.TheVariants.{Outside, Unaligned}
+use Rattle.log_schemes.specs.declared.log.Log.{Log}
+use Rattle.machine_events.specs.declared.event.Event.TheVariants.{Step}
+use Rattle.machine_events.specs.declared.event.Reply.TheVariants.{Moved, Drained}
+use Rattle.machine_events.specs.declared.event.Cause.TheVariants.{Outside, Unaligned}
 use Rattle.ido_base.specs.Words.{Word, Entry, stored, entry_of, drained}
-use Rattle.ido_base.specs.Layout.{in_range, aligned, byte_number}
+use Rattle.ido_base.specs.Layout.{aligned, byte_number}
+use Rattle.log_schemes.specs.Layout.{in_range}
 use Rattle.rv64_isa.specs.declared.object.Slot.{Slot}
 use Rattle.rv64_isa.specs.Rows.{Effect, Continues, Loads, Stores, Cleans, Fences, Calls, row, next, written, load_result}
-use Rattle.rv64_isa.specs.Machine.{Hart, World, Outcome, moved, stuck, with_hart, access, applied, fenced, cleaned, drain_one, gone_on, happens, after_event}
-use Rattle.rv64_isa.proofs.Public.{get-set_same}
+use Rattle.machine_model.specs.Machine.{Hart, World, Outcome, moved, stuck, with_hart, access, applied, fenced, cleaned, drain_one, gone_on, happens, after_event}
+use Rattle.machine_model.proofs.Public.{get-set_same}
 use Rattle.code_runs.specs.ComputingRuns.{LocalConfig, config}
 use Rattle.code_runs.specs.CodeTraces.{MarkedEnvironment, Observation, Mark, Does, outside, marked, passed, IsTraceStep}
 use Rattle.hart_runs.specs.HartsOnRuns.{is_access, is_width, LoadGives, Agrees, may_go, MayGo, IsOnTrace, OnRun}

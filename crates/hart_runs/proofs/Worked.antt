@@ -1,11 +1,11 @@
 -- Worked rows: x = x + 1 by a load, a store, a clean and a fence, and calls.
 use Rattle.std.proofs.Common.{zero, suc, subst, ◌≤◌, ◌≡◌, ℕ, List, [], ◌∷◌, length, replicate, refl, Bool, true, false, Option, Some, None}
 use Rattle.std.specs.Prelude.{slice_get, slice_set}
-use Rattle.ido_base.specs.declared.log.Log.TheVariants.{V1}
-use Rattle.ido_base.specs.declared.event.Event.{Event}
-use Rattle.ido_base.specs.declared.event.Event.TheVariants.{Step}
-use Rattle.ido_base.specs.declared.event.Reply.{Reply}
-use Rattle.ido_base.specs.declared.event.Reply.TheVariants.{Moved, Drained, Waits}
+use Rattle.log_schemes.specs.declared.log.Log.TheVariants.{V1}
+use Rattle.machine_events.specs.declared.event.Event.{Event}
+use Rattle.machine_events.specs.declared.event.Event.TheVariants.{Step}
+use Rattle.machine_events.specs.declared.event.Reply.{Reply}
+use Rattle.machine_events.specs.declared.event.Reply.TheVariants.{Moved, Drained, Waits}
 use Rattle.ido_base.specs.Words.{Word, word_of, word_at, live_value, durable_value, entry_of}
 use Rattle.rv64_isa.specs.declared.instr.Instr.{Instr}
 use Rattle.rv64_isa.specs.declared.instr.Instr.TheVariants.{Load, Store, OpImmediate, CboClean, Fence, Ecall}
@@ -14,11 +14,11 @@ use Rattle.rv64_isa.specs.declared.instr.LoadKind.TheVariants.{Ld}
 use Rattle.rv64_isa.specs.declared.instr.StoreKind.TheVariants.{Sd}
 use Rattle.rv64_isa.specs.declared.object.Slot.{Slot}
 use Rattle.rv64_isa.specs.declared.object.Slot.TheVariants.{Row}
-use Rattle.rv64_isa.specs.declared.phase.Phase.{Phase}
-use Rattle.rv64_isa.specs.declared.phase.Phase.TheVariants.{Run, Done}
+use Rattle.machine_model.specs.declared.phase.Phase.{Phase}
+use Rattle.machine_model.specs.declared.phase.Phase.TheVariants.{Run, Done}
 use Rattle.rv64_isa.specs.Arithmetic.{result_of}
 use Rattle.rv64_isa.specs.Rows.{Stores, Cleans, Fences, row}
-use Rattle.rv64_isa.specs.Machine.{Hart, World, happens, after_event, after_events, reply_to}
+use Rattle.machine_model.specs.Machine.{Hart, World, happens, after_event, after_events, reply_to}
 use Rattle.code_runs.specs.ComputingRuns.{LocalConfig, config}
 use Rattle.code_runs.specs.CodeTraces.{MarkedEnvironment, Observation, Mark, Does, Trace}
 use Rattle.hart_runs.specs.HartsOnRuns.{instr_at, live_loads, environment_of, Agrees, IsOnTrace}
@@ -26,9 +26,9 @@ use Rattle.hart_runs.specs.RunSteps.{steps_left}
 use Rattle.hart_runs.specs.Laws.{AreCrashless, own_steps, ComesTo}
 use Rattle.hart_runs.proofs.Worlds.{none_some, some_same}
 use Rattle.hart_runs.proofs.Delay.{harts_come}
-use Rattle.rv64_isa.specs.Frames.{IsWellFormedWorld}
+use Rattle.machine_model.specs.Frames.{IsWellFormedWorld}
 use Rattle.ido_base.specs.Growth.{AreEntries}
-use Rattle.ido_base.specs.Layout.{word_count}
+use Rattle.log_schemes.specs.Layout.{word_count}
 
 abbrev code : List Instr
 code = Load Ld 5 28 0 ∷ OpImmediate Addi 5 5 1 ∷ Store Sd 5 28 0 ∷ CboClean 28 ∷ Fence ∷ Ecall ∷ []

@@ -2,12 +2,13 @@
 use Rattle.std.proofs.Common.{◌≡◌, ℕ, zero, suc, ◌+◌, ◌<◌, List, [], ◌∷◌, length, map, replicate, refl, ap, arith, sym, ◌∙◌, Option, Some, None, add-zero}
 use Rattle.std.specs.Prelude.{slice_get}
 use Rattle.std.proofs.lemmas.List.{length-replicate}
-use Rattle.ido_base.specs.declared.log.Log.{Log}
-use Rattle.ido_base.specs.declared.event.Event.TheVariants.{Crash}
+use Rattle.log_schemes.specs.declared.log.Log.{Log}
+use Rattle.machine_events.specs.declared.event.Event.TheVariants.{Crash}
 use Rattle.ido_base.specs.Words.{Word, word_of, word_at, durable_value}
-use Rattle.ido_base.specs.Layout.{point_at, word_number}
+use Rattle.ido_base.specs.Layout.{word_number}
+use Rattle.log_schemes.specs.Layout.{point_at}
 use Rattle.rv64_isa.specs.declared.object.Slot.{Slot}
-use Rattle.rv64_isa.specs.Machine.{World, fresh_hart, phase_after_crash, durable_point, numbers_from, after_crash_of, happens, after_event}
+use Rattle.machine_model.specs.Machine.{World, fresh_hart, phase_after_crash, durable_point, numbers_from, after_crash_of, happens, after_event}
 use Rattle.hart_runs.specs.Laws.{IsCrashed}
 use Rattle.hart_runs.proofs.Worlds.{none_some, some_same}
 

@@ -1,19 +1,19 @@
 -- Lists of harts and locks, and when a step of a hart that executes instructions ends nothing.
 use Rattle.std.proofs.Common.{◌≡◌, ℕ, List, refl, ap, sym, ◌∙◌, subst, cond, Bool, true, false, Option, Some, None}
 use Rattle.std.specs.Prelude.{slice_get, not, ◌&&◌}
-use Rattle.ido_base.specs.declared.event.Event.TheVariants.{Step}
-use Rattle.ido_base.specs.declared.event.Reply.TheVariants.{Waits}
+use Rattle.machine_events.specs.declared.event.Event.TheVariants.{Step}
+use Rattle.machine_events.specs.declared.event.Reply.TheVariants.{Waits}
 use Rattle.ido_base.specs.Locks.{holds_none}
 use Rattle.rv64_isa.specs.declared.instr.Instr.{Instr}
 use Rattle.rv64_isa.specs.declared.object.Slot.{Slot}
 use Rattle.rv64_isa.specs.declared.object.Slot.TheVariants.{Row, NoRow}
-use Rattle.rv64_isa.specs.declared.phase.Phase.{Phase}
-use Rattle.rv64_isa.specs.declared.phase.Phase.TheVariants.{Run, Done}
+use Rattle.machine_model.specs.declared.phase.Phase.{Phase}
+use Rattle.machine_model.specs.declared.phase.Phase.TheVariants.{Run, Done}
 use Rattle.rv64_isa.specs.Programs.{fetched}
 use Rattle.rv64_isa.specs.Rows.{Effect, row}
-use Rattle.rv64_isa.specs.Machine.{Hart, World, Outcome, moved, with_hart, with_holder, happens, stepped}
-use Rattle.rv64_isa.specs.Machine.{phase_step, hart_step, applied, executed, over_after, done_if_over}
-use Rattle.rv64_isa.specs.Schedule.{effect_at}
+use Rattle.machine_model.specs.Machine.{Hart, World, Outcome, moved, with_hart, with_holder, happens, stepped}
+use Rattle.machine_model.specs.Machine.{phase_step, hart_step, applied, executed, over_after, done_if_over}
+use Rattle.machine_model.specs.Schedule.{effect_at}
 use Rattle.hart_runs.specs.HartsOnRuns.{instr_of, instr_at}
 
 pub is_some : {A : Type 0} → Option A → Type 0

@@ -1,15 +1,15 @@
 -- A hart at a call, and in recovery.
 use Rattle.std.specs.Prelude.{◌≡◌, ◌≢◌, ℕ, ◌<◌, List, length, slice_get, Option, Some, None, true, false, ◌&&◌, if◌then◌else◌}
-use Rattle.ido_base.specs.declared.event.Event.TheVariants.{Step}
-use Rattle.ido_base.specs.declared.event.Reply.TheVariants.{Waits, Barrier}
+use Rattle.machine_events.specs.declared.event.Event.TheVariants.{Step}
+use Rattle.machine_events.specs.declared.event.Reply.TheVariants.{Waits, Barrier}
 use Rattle.ido_base.specs.Locks.{has_lock, holds_none, least_held}
 use Rattle.rv64_isa.specs.declared.instr.Instr.TheVariants.{Ecall}
 use Rattle.rv64_isa.specs.declared.object.Slot.{Slot}
-use Rattle.rv64_isa.specs.declared.phase.Phase.{Phase}
-use Rattle.rv64_isa.specs.declared.phase.Phase.TheVariants.{Take, Wait, Resume, Run, Done}
+use Rattle.machine_model.specs.declared.phase.Phase.{Phase}
+use Rattle.machine_model.specs.declared.phase.Phase.TheVariants.{Take, Wait, Resume, Run, Done}
 use Rattle.rv64_isa.specs.Rows.{read}
-use Rattle.rv64_isa.specs.Machine.{Hart, World, with_holder, moved, happens, after_event, record_of, durable_point, resume_of, resumed_registers}
-use Rattle.rv64_isa.specs.Schedule.{is_running}
+use Rattle.machine_model.specs.Machine.{Hart, World, with_holder, moved, happens, after_event, record_of, durable_point, resume_of, resumed_registers}
+use Rattle.machine_model.specs.Schedule.{is_running}
 use Rattle.code_runs.specs.ComputingRuns.{config}
 use Rattle.hart_runs.specs.HartsOnRuns.{instr_at, Agrees, IsRunningAt, OnRun}
 

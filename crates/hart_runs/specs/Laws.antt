@@ -1,24 +1,24 @@
 -- Laws of harts that stand on runs: what each event does to them.
 use Rattle.std.specs.Prelude.{◌≡◌, ◌≢◌, ◌⊎◌, ℕ, suc, ◌+◌, ◌-◌, ◌*◌, ◌/◌, ◌<◌, ◌≤◌, List, [], ◌∷◌, ◌++◌, length, slice_get}
 use Rattle.std.specs.Prelude.{slice_set, Option, Some, None, Bool, true, false, ◌==◌, ◌&&◌, if◌then◌else◌}
-use Rattle.ido_base.specs.declared.log.Log.{Log}
-use Rattle.ido_base.specs.declared.event.Event.{Event}
-use Rattle.ido_base.specs.declared.event.Event.TheVariants.{Step, Evict, Crash, Start}
-use Rattle.ido_base.specs.declared.event.Reply.TheVariants.{Waits, Still, Stuck}
-use Rattle.ido_base.specs.declared.event.Cause.{Cause}
+use Rattle.log_schemes.specs.declared.log.Log.{Log}
+use Rattle.machine_events.specs.declared.event.Event.{Event}
+use Rattle.machine_events.specs.declared.event.Event.TheVariants.{Step, Evict, Crash, Start}
+use Rattle.machine_events.specs.declared.event.Reply.TheVariants.{Waits, Still, Stuck}
+use Rattle.machine_events.specs.declared.event.Cause.{Cause}
 use Rattle.ido_base.specs.Words.{Entry, stored, word_at, word_of, durable_value, last_position}
 use Rattle.ido_base.specs.Layout.{byte_number, line_bytes}
 use Rattle.ido_base.specs.Locks.{least_held}
 use Rattle.ido_base.specs.Growth.{ArePersisted, PersistsThrough}
 use Rattle.rv64_isa.specs.declared.object.Slot.{Slot}
-use Rattle.rv64_isa.specs.declared.phase.Phase.{Phase}
-use Rattle.rv64_isa.specs.declared.phase.Phase.TheVariants.{Take, Wait, Resume, Run, Done, Ended}
+use Rattle.machine_model.specs.declared.phase.Phase.{Phase}
+use Rattle.machine_model.specs.declared.phase.Phase.TheVariants.{Take, Wait, Resume, Run, Done, Ended}
 use Rattle.rv64_isa.specs.Rows.{Effect, Continues, Loads, Stores, Cleans, Fences, Calls}
 use Rattle.rv64_isa.specs.Programs.{code_start, code_of}
-use Rattle.rv64_isa.specs.Machine.{Hart, World, queue_limit, after_event, after_events, reply_to, happens, moved, with_holder}
-use Rattle.rv64_isa.specs.Machine.{gone_on, start_of, after_crash_of, fresh_hart, phase_after_crash, durable_point}
-use Rattle.rv64_isa.specs.Frames.{IsWellFormedWorld}
-use Rattle.rv64_isa.specs.Schedule.{KeepsOn, has_moved, is_running, is_mark, is_point_store, is_fence, passes_mark, stores_point, finishes_fence}
+use Rattle.machine_model.specs.Machine.{Hart, World, queue_limit, after_event, after_events, reply_to, happens, moved, with_holder}
+use Rattle.machine_model.specs.Machine.{gone_on, start_of, after_crash_of, fresh_hart, phase_after_crash, durable_point}
+use Rattle.machine_model.specs.Frames.{IsWellFormedWorld}
+use Rattle.machine_model.specs.Schedule.{KeepsOn, has_moved, is_running, is_mark, is_point_store, is_fence, passes_mark, stores_point, finishes_fence}
 use Rattle.code_runs.specs.ComputingRuns.{LocalConfig, config}
 use Rattle.code_runs.specs.CodeTraces.{MarkedEnvironment, Observation, Trace, Program, Meets, Answers}
 use Rattle.hart_runs.specs.HartsOnRuns.{environment_of, is_access, Agrees, MayGo, IsRunningAt, IsOnTrace, OnRun}

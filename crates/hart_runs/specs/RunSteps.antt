@@ -1,13 +1,13 @@
 -- What a step of a hart makes of the world while it stands on a run.
 use Rattle.std.specs.Prelude.{◌≡◌, ℕ, suc, ◌+◌, ◌/◌, ◌<◌, ◌≤◌, List, [], ◌∷◌, ◌++◌, length, Some, Bool, true, false, if◌then◌else◌}
-use Rattle.ido_base.specs.declared.event.Event.TheVariants.{Step}
-use Rattle.ido_base.specs.declared.event.Reply.TheVariants.{Moved, Drained}
+use Rattle.machine_events.specs.declared.event.Event.TheVariants.{Step}
+use Rattle.machine_events.specs.declared.event.Reply.TheVariants.{Moved, Drained}
 use Rattle.ido_base.specs.Words.{Word, Entry, stored, entry_of, drained}
 use Rattle.ido_base.specs.Layout.{byte_number, line_bytes}
 use Rattle.rv64_isa.specs.declared.object.Slot.{Slot}
 use Rattle.rv64_isa.specs.Rows.{Effect, Continues, Loads, Stores, Cleans, Fences, Calls}
-use Rattle.rv64_isa.specs.Machine.{World, with_hart, queue_limit, after_event, reply_to}
-use Rattle.rv64_isa.specs.Schedule.{effect_at}
+use Rattle.machine_model.specs.Machine.{World, with_hart, queue_limit, after_event, reply_to}
+use Rattle.machine_model.specs.Schedule.{effect_at}
 use Rattle.code_runs.specs.ComputingRuns.{LocalConfig, config}
 use Rattle.code_runs.specs.CodeTraces.{Observation, Mark, Does, marked, outside, passed}
 use Rattle.hart_runs.specs.HartsOnRuns.{IsOnTrace, OnRun}

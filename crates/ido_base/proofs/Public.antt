@@ -1,5 +1,4 @@
 -- What crates above may use of this crate's proofs, passed on from one place. Declares nothing.
-pub use Rattle.ido_base.proofs.Cores.{least_enabled-next, least_enabled-stays, passed_count-more, played-append, played-more}
 pub use Rattle.ido_base.proofs.Growth.{are_persisted_refl, changed_by_persisted, changed_refl, clean_entry, cleans_reach, durable_later, entries_append}
 pub use Rattle.ido_base.proofs.Growth.{entries_stay, evictions_raise, higher_all, last_later, persisted_refl, reach_stays, same_last, stores_change, word_other}
 pub use Rattle.ido_base.proofs.Growth.{word_same, write_backs_raise}

@@ -2,9 +2,8 @@
 use Rattle.std.proofs.Common.{◌≡◌, ℕ, List, [], ◌∷◌, Option, Some, None, refl, true, false}
 use Rattle.ido_base.specs.declared.location.Shape.{Shape}
 use Rattle.ido_base.specs.declared.location.Location.{Location}
-use Rattle.ido_base.specs.declared.log.Log.TheVariants.{V1, V2}
 use Rattle.ido_base.specs.Words.{Word, word_of, live_value, durable_value, word_at, stored, entry_of, drained, evicted}
-use Rattle.ido_base.specs.Layout.{variable_at, slot_at, word_number, point_at, in_range}
+use Rattle.ido_base.specs.Layout.{variable_at}
 use Rattle.ido_base.specs.Locations.{overlap, same}
 use Rattle.ido_base.specs.Places.{line_of, column_of}
 
@@ -19,31 +18,6 @@ aligned_after_bytes = refl
 last_variable : variable_at shapes 2 0 ≡ 0x1000_0010
 unfolding shapes
 last_variable = refl
-
-point_of_the_second : word_number (point_at V1 1) ≡ 8320
-point_of_the_second = refl
-
-slot_of_the_second_bank : slot_at V1 0 1 28 ≡ 0x2000_0220
-slot_of_the_second_bank = refl
-
--- a log that lists its locks has twice the lines, and a bank of 48 slots
-point_of_a_list : word_number (point_at V2 1) ≡ 8448
-point_of_a_list = refl
-
-last_lock_listed : slot_at V2 0 1 47 ≡ 0x2000_05B8
-last_lock_listed = refl
-
-last_byte : in_range V1 1 0x2000_03FF 1 ≡ true
-last_byte = refl
-
-last_byte_of_two : in_range V2 2 0x2000_0FFF 1 ≡ true
-last_byte_of_two = refl
-
-past_the_logs : in_range V2 1 0x2000_0800 1 ≡ false
-past_the_logs = refl
-
-across_the_end : in_range V1 1 0x1000_FFFC 8 ≡ false
-across_the_end = refl
 
 eight_words : List Word
 eight_words = word_of 5 ∷ word_of 0 ∷ word_of 0 ∷ word_of 0 ∷ word_of 0 ∷ word_of 0 ∷ word_of 0 ∷ word_of 0 ∷ []

@@ -3,5 +3,4 @@ pub mod Layout
 pub mod Locks
 pub mod Locations
 pub mod Places
-pub mod Cores
 pub mod Growth

@@ -5,7 +5,7 @@ use Rattle.std.specs.List.{AllByRecursion}
 use Rattle.std.proofs.lemmas.List.{length-map}
 use Rattle.std.proofs.lemmas.List.Elements.{All-from_recursion}
 use Rattle.ido_base.specs.declared.limits.TheConstants.{MOST_THREADS, MOST_CODE_WORDS}
-use Rattle.rv64_isa.specs.declared.object.Object.{Object}
+use Rattle.machine_model.specs.declared.object.Object.{Object}
 use Rattle.object_format.specs.Contents.{IsThreadCode, IsWithinLimits, contents_of, items_of}
 
 few_by_recursion : (code : List (Vec ℕ)) → AllByRecursion IsThreadCode (map items_of code) → AllByRecursion (λ words. length words.items ≤ MOST_CODE_WORDS) code

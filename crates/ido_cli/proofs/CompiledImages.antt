@@ -20,7 +20,7 @@ use Rattle.crash_images.specs.declared.state.State as code
 use Rattle.crash_images.specs.links.Views.{state_of}
 use Rattle.crash_images.specs.declared.version.ImageVersion.{ImageVersion}
 use Rattle.crash_images.specs.declared.version.ImageVersion.TheVariants.{First, Second, Third}
-use Rattle.rv64_isa.specs.Schedule.{all_lives}
+use Rattle.machine_model.specs.Schedule.{all_lives}
 use Rattle.run_scripts.specs.links.ReportViews.{steps_of}
 use Rattle.run_tracker.specs.links.EarlierLives.{lives_in}
 use Rattle.ido_cli.specs.CompiledImages.{size_of, threads_of, BeginsCompiled, HasState, IsFaultAfter, IsImageAnswer, IsStateAfter, whole, no_version, no_source}

@@ -1,10 +1,10 @@
 -- What is known of a source that is compiled.
 use Rattle.std.proofs.Common.{◌≡◌, ℕ, List, length, map, sym, ap, ◌∙◌, subst}
 use Rattle.std.proofs.lemmas.List.{length-map}
-use Rattle.ido_base.specs.declared.log.Log.{Log}
+use Rattle.log_schemes.specs.declared.log.Log.{Log}
 use Rattle.c_tree.specs.Flats.{Flat, flat_of}
 use Rattle.rv64_isa.specs.Programs.{slot_of}
-use Rattle.rv64_isa.specs.Executables.{Executable}
+use Rattle.machine_model.specs.Executables.{Executable}
 use Rattle.hart_core.specs.Objects.{IsWithinLimits}
 use Rattle.c_tree.specs.WellFormed.{IsWellFormed, shape_of}
 use Rattle.memory_layout.specs.Variables.{HaveRoom}

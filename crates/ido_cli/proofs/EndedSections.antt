@@ -3,16 +3,16 @@ use Rattle.std.proofs.Common.{◌≡◌, refl, ℕ, ◌+◌, ◌<◌, List, [], 
 use Rattle.std.specs.Prelude.{if◌then◌else◌, not, ◌==◌}
 use Rattle.std.proofs.lemmas.Bool.{and_parts, true≢false}
 use Rattle.std.proofs.lemmas.List.{append-nil}
-use Rattle.ido_base.specs.declared.event.Event.{Event}
-use Rattle.ido_base.specs.declared.event.Event.TheVariants.{Step, Evict, Crash, Start}
-use Rattle.ido_base.specs.Cores.{passed_count}
+use Rattle.machine_events.specs.declared.event.Event.{Event}
+use Rattle.machine_events.specs.declared.event.Event.TheVariants.{Step, Evict, Crash, Start}
+use Rattle.machine_events.specs.Cores.{passed_count}
 use Rattle.c_tree.specs.Source.{ended_from, runs_from, start}
 use Rattle.source_machine.specs.Lives.{end_lives, ended_lives}
 use Rattle.source_machine.proofs.Public.{ended_life, runs_life}
-use Rattle.rv64_isa.specs.Executables.{first_world}
-use Rattle.rv64_isa.specs.Machine.{World, durable_point}
-use Rattle.rv64_isa.specs.Schedule.{Steps, begins_life, first_steps, next_life, only_life, schedules, steps_after}
-use Rattle.rv64_isa.proofs.Public.{after_start, event_earlier}
+use Rattle.machine_model.specs.Executables.{first_world}
+use Rattle.machine_model.specs.Machine.{World, durable_point}
+use Rattle.machine_model.specs.Schedule.{Steps, begins_life, first_steps, next_life, only_life, schedules, steps_after}
+use Rattle.machine_model.proofs.Public.{after_start, event_earlier}
 use Rattle.crash_simulation.proofs.Public.{steps_join}
 use Rattle.compiler_correctness.specs.Translations.{IsRunnable, Translation, source_at, steps, world}
 use Rattle.compiler_correctness.specs.Compilation as promised

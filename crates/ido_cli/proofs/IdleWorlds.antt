@@ -2,12 +2,13 @@
 use Rattle.std.proofs.Common.{◌≡◌, Bool, ℕ, zero, suc, ◌+◌, ◌-◌, ◌*◌, ◌<◌, ◌≤◌, List, [], ◌∷◌, ◌++◌, length, map, replicate, take, get_or, refl, ap, ap₂}
 use Rattle.std.proofs.Common.{◌∙◌, arith, true, not, None}
 use Rattle.std.specs.Prelude.{◌==◌, ◌&&◌, is_none}
-use Rattle.ido_base.specs.declared.log.Log.{Log}
-use Rattle.ido_base.specs.Layout.{log_words, point_at, spread_words, word_number}
+use Rattle.log_schemes.specs.declared.log.Log.{Log}
+use Rattle.ido_base.specs.Layout.{spread_words, word_number}
+use Rattle.log_schemes.specs.Layout.{log_words, point_at}
 use Rattle.ido_base.specs.Locks.{held_from, holds_none}
 use Rattle.ido_base.specs.Words.{Word, durable_value, live_value, word_at, word_of}
 use Rattle.rv64_isa.specs.declared.object.Slot.{Slot}
-use Rattle.rv64_isa.specs.Machine.{World, after_crash_of, is_settled_hart}
+use Rattle.machine_model.specs.Machine.{World, after_crash_of, is_settled_hart}
 use Rattle.log_states.proofs.Public.{word_of_point}
 use Rattle.image_runs.proofs.Public.{word_there, words_are}
 use Rattle.ido_cli.specs.Reports.{unsettled_harts}

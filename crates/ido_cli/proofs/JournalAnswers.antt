@@ -4,7 +4,7 @@ use Rattle.std.proofs.Common.{Some, None, sym, ap, subst, ◌∙◌, ◌==◌, i
 use Rattle.std.proofs.lemmas.Bool.{eqb-true}
 use Rattle.std.proofs.lemmas.List.{length-map}
 use Rattle.std.specs.Prelude.{◌-◌, slice_index}
-use Rattle.ido_base.specs.declared.event.Event.{Event}
+use Rattle.machine_events.specs.declared.event.Event.{Event}
 use Rattle.ido_base.specs.declared.limits.TheConstants.{MOST_EVENTS}
 use Rattle.ido_base.specs.Places.{line_feed}
 use Rattle.c_tree.specs.Flats as f

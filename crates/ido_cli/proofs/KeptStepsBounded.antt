@@ -6,14 +6,14 @@ use Rattle.std.proofs.lemmas.List.Concat.{length-flat_map}
 use Rattle.std.proofs.lemmas.List.Sums.{sum_by-cons, sum_by_push}
 use Rattle.std.proofs.lemmas.Bool.{cases_lt}
 use Rattle.std.proofs.lemmas.List.{set_past}
-use Rattle.ido_base.specs.declared.event.Event.{Event}
-use Rattle.ido_base.specs.declared.event.Event.TheVariants.{Step, Evict, Crash, Start}
+use Rattle.machine_events.specs.declared.event.Event.{Event}
+use Rattle.machine_events.specs.declared.event.Event.TheVariants.{Step, Evict, Crash, Start}
 use Rattle.ido_base.specs.Words.{Word, last_position, word_at}
 use Rattle.rv64_isa.specs.declared.object.Slot.{Slot}
-use Rattle.rv64_isa.specs.Machine.{World, after_event, can_start}
-use Rattle.rv64_isa.specs.Schedule.{HartSteps, LifeSchedules, Steps, all_lives, first_steps, hart_steps, only_life, passes_mark, schedules, steps_after}
-use Rattle.rv64_isa.specs.Schedule.{next_life, steps_along, stores_point}
-use Rattle.rv64_isa.proofs.Public.{event_earlier}
+use Rattle.machine_model.specs.Machine.{World, after_event, can_start}
+use Rattle.machine_model.specs.Schedule.{HartSteps, LifeSchedules, Steps, all_lives, first_steps, hart_steps, only_life, passes_mark, schedules, steps_after}
+use Rattle.machine_model.specs.Schedule.{next_life, steps_along, stores_point}
+use Rattle.machine_model.proofs.Public.{event_earlier}
 use Rattle.run_tracker.specs.links.AccountRepresentation.{all_kept, point_word, weight}
 use Rattle.run_tracker.proofs.Public.{begun_if, harts-noted, noted, weight-after, weightless, weight-all_kept}
 

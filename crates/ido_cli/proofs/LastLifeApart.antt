@@ -5,7 +5,7 @@ use Rattle.std.specs.Global.{Global}
 use Rattle.std.proofs.lemmas.List.{length-map, map-append}
 use Rattle.std.proofs.lemmas.List.Concat.{length-flat_map}
 use Rattle.std.proofs.lemmas.List.Sums.{sum_by_push}
-use Rattle.rv64_isa.specs.Schedule.{LifeSchedules, all_lives}
+use Rattle.machine_model.specs.Schedule.{LifeSchedules, all_lives}
 use Rattle.run_scripts.specs.links.ReportViews.{steps_of}
 use Rattle.run_tracker.specs.links.EarlierLives.{kept_count, lives_in, schedule_in}
 

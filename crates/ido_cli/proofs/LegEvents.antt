@@ -4,11 +4,11 @@ use Rattle.std.proofs.Common.{length-append, append_assoc, ◌==◌, Some, None}
 use Rattle.std.specs.Prelude.{count_by, if◌then◌else◌}
 use Rattle.std.proofs.lemmas.Bool.{eq-eqb, ne_eqb}
 use Rattle.std.proofs.lemmas.List.Sums.{sum_by-cons}
-use Rattle.ido_base.specs.declared.event.Event.{Event}
-use Rattle.ido_base.specs.declared.event.Event.TheVariants.{Step, Evict, Crash, Start}
+use Rattle.machine_events.specs.declared.event.Event.{Event}
+use Rattle.machine_events.specs.declared.event.Event.TheVariants.{Step, Evict, Crash, Start}
 use Rattle.hart_driver.specs.declared.stop.Stop.TheVariants.{Ended, Turns, Moment}
 use Rattle.hart_driver.specs.Legs.{Leg, AreTurns, IsTurn, has_ended, is_event_of, made, stop_of}
-use Rattle.rv64_isa.specs.Schedule.{HaveNoStart}
+use Rattle.machine_model.specs.Schedule.{HaveNoStart}
 use Rattle.ido_cli.specs.ThreadedRuns.{is_crash, is_eviction}
 
 count_more : (p : Event → Bool) (x : Event) (xs : List Event) → count_by p (x ∷ xs) ≡ cond (p x) 1 0 + count_by p xs

@@ -5,11 +5,11 @@ use Rattle.std.specs.Prelude.{count_by, option_map, slice_index_or, IfSome, ifâ—
 use Rattle.std.proofs.lemmas.Bool.{eq-eqb, ne_eqb}
 use Rattle.std.proofs.lemmas.List.{at_drop_more, drop_all}
 use Rattle.std.proofs.lemmas.List.Sums.{sum_by-append}
-use Rattle.ido_base.specs.declared.log.Log.{Log}
-use Rattle.ido_base.specs.declared.event.Event.{Event}
-use Rattle.ido_base.specs.declared.event.Event.TheVariants.{Crash}
-use Rattle.ido_base.specs.Cores.{played}
-use Rattle.rv64_isa.specs.Machine.{IsEviction}
+use Rattle.log_schemes.specs.declared.log.Log.{Log}
+use Rattle.machine_events.specs.declared.event.Event.{Event}
+use Rattle.machine_events.specs.declared.event.Event.TheVariants.{Crash}
+use Rattle.machine_events.specs.Cores.{played}
+use Rattle.machine_model.specs.Machine.{IsEviction}
 use Rattle.hart_driver.specs.declared.stop.Stop.{Stop}
 use Rattle.hart_driver.specs.Driven.{HasAdvanced, IsDriven, evictions_of as coming_of}
 use Rattle.hart_driver.specs.Legs.{Leg, IsLeg}

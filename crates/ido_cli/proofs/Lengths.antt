@@ -5,7 +5,7 @@ use Rattle.std.specs.List.{AllByRecursion}
 use Rattle.std.proofs.lemmas.List.{length-map}
 use Rattle.std.proofs.lemmas.List.Elements.{recursion_from_All}
 use Rattle.ido_base.specs.declared.limits.TheConstants.{MOST_CODE_WORDS}
-use Rattle.rv64_isa.specs.declared.object.Object.{Object}
+use Rattle.machine_model.specs.declared.object.Object.{Object}
 use Rattle.hart_core.specs.Objects.{IsWithinLimits}
 use Rattle.object_format.specs.Contents.{contents_of, items_of}
 use Rattle.object_format.specs.ObjectEncoder.{HasLengths}

@@ -1,8 +1,8 @@
 -- Lives of ordered texts go on until all harts have stopped.
 use Rattle.std.proofs.Common.{◌≡◌, length, None, sym, ap, subst}
 use Rattle.std.specs.Prelude.{◌↔◌}
-use Rattle.ido_base.specs.Cores.{least_enabled}
-use Rattle.rv64_isa.specs.Machine.{World}
+use Rattle.machine_events.specs.Cores.{least_enabled}
+use Rattle.machine_model.specs.Machine.{World}
 use Rattle.deadlock_freedom.specs.Deadlocks.{HaveStopped, NoneDeadlocks}
 use Rattle.flat_compile.specs.TranslatedForms.{command_log}
 use Rattle.ido_compile.specs.CompileAnswers.{translation_in}

@@ -2,21 +2,22 @@
 use Rattle.std.proofs.Common.{◌≡◌, refl, ℕ, suc, ◌+◌, ◌<◌, ◌≤◌, List, [], ◌∷◌, ◌++◌, length, map, take}
 use Rattle.std.proofs.Common.{sym, ◌∙◌, ap, ap₂, subst, Option, Some, None, min}
 use Rattle.std.proofs.lemmas.List.{length-map, take_all}
-use Rattle.ido_base.specs.declared.log.Log.{Log}
-use Rattle.ido_base.specs.declared.event.Event.{Event}
-use Rattle.ido_base.specs.Cores.{passed_count, played}
+use Rattle.log_schemes.specs.declared.log.Log.{Log}
+use Rattle.machine_events.specs.declared.event.Event.{Event}
+use Rattle.machine_events.specs.Cores.{passed_count, played}
 use Rattle.ido_base.specs.declared.limits.TheConstants.{MOST_EVENTS}
 use Rattle.c_tree.specs.Flats as f
 use Rattle.c_tree.specs.Source as m
-use Rattle.rv64_isa.specs.declared.object.Object.{Object}
+use Rattle.machine_model.specs.declared.object.Object.{Object}
 use Rattle.rv64_isa.specs.declared.object.Marks.{Marks}
 use Rattle.rv64_isa.specs.declared.object.Slot.{Slot}
-use Rattle.rv64_isa.specs.Executables.{Executable}
-use Rattle.rv64_isa.specs.Machine.{World, after_event, after_events, machine_start, numbers_from, start_of}
-use Rattle.rv64_isa.specs.Frames.{IsWellFormedWorld}
-use Rattle.rv64_isa.specs.Programs.{program_of, slot_of}
-use Rattle.rv64_isa.specs.Schedule.{Steps, first_steps, steps_along, schedules}
-use Rattle.rv64_isa.proofs.Public.{queues_stand, starts_simulate}
+use Rattle.machine_model.specs.Executables.{Executable}
+use Rattle.machine_model.specs.Machine.{World, after_event, after_events, machine_start, numbers_from, start_of}
+use Rattle.machine_model.specs.Frames.{IsWellFormedWorld}
+use Rattle.rv64_isa.specs.Programs.{slot_of}
+use Rattle.machine_model.specs.Objects.{program_of}
+use Rattle.machine_model.specs.Schedule.{Steps, first_steps, steps_along, schedules}
+use Rattle.machine_model.proofs.Public.{queues_stand, starts_simulate}
 use Rattle.flow_graph.specs.declared.cuts.Cuts.{Cuts}
 use Rattle.flow_graph.specs.Nodes.{Graph}
 use Rattle.flow_graph.specs.Lowering.{parts, thread_count}

@@ -2,9 +2,9 @@
 use Rattle.std.proofs.Common.{◌≡◌, ℕ, ◌≤◌, List, length, ap₂, sym, subst, arith, Result, Ok, Err, Some}
 use Rattle.std.specs.Prelude.{sum_by}
 use Rattle.std.proofs.lemmas.Option.{none-some}
-use Rattle.ido_base.specs.declared.event.Event.{Event}
+use Rattle.machine_events.specs.declared.event.Event.{Event}
 use Rattle.ido_base.specs.declared.limits.TheConstants.{MOST_EVENTS, MOST_STEPS}
-use Rattle.rv64_isa.specs.Executables.{first_world}
+use Rattle.machine_model.specs.Executables.{first_world}
 use Rattle.compiler_correctness.specs.Images as left
 use Rattle.compiler_correctness.specs.Translations.{Translation, translation_to}
 use Rattle.ido_compile.specs.CompileAnswers.{translation_in}
@@ -19,7 +19,7 @@ use Rattle.ido_cli.specs.Images.{IsImageAfter}
 use Rattle.ido_cli.specs.Laws.{RunsAreRecovered}
 use Rattle.ido_cli.specs.Recoveries.{IsRecovery, IsRecoveredRun, recovered, refused}
 use Rattle.ido_cli.specs.Refusals.{image_line}
-use Rattle.rv64_isa.specs.Schedule.{LifeSchedules, all_lives}
+use Rattle.machine_model.specs.Schedule.{LifeSchedules, all_lives}
 use Rattle.ido_cli.proofs.LastLifeApart.{same_lives}
 use Rattle.ido_cli.proofs.KeptStepsBounded.{first_kept_few}
 use Rattle.ido_cli.proofs.RunImageAnswers.{RunImage}

@@ -1,9 +1,9 @@
 -- What is said of a life that went on from an image's file.
 use Rattle.std.proofs.Common.{◌≡◌, ℕ, List, [], length, ap, subst, ◌∙◌, arith, None}
 use Rattle.c_tree.specs.Flats.{flat_of}
-use Rattle.rv64_isa.specs.Machine.{World, after_events}
-use Rattle.rv64_isa.specs.Schedule.{Steps, first_steps, schedules, steps_along}
-use Rattle.rv64_isa.proofs.Public.{along_earlier}
+use Rattle.machine_model.specs.Machine.{World, after_events}
+use Rattle.machine_model.specs.Schedule.{Steps, first_steps, schedules, steps_along}
+use Rattle.machine_model.proofs.Public.{along_earlier}
 use Rattle.compiler_correctness.specs.Compilations.{IsCompilation}
 use Rattle.compiler_correctness.specs.Images.{Image, first_from, image_in, steps_from, world_from}
 use Rattle.compiler_correctness.specs.Laws.{ImagesAreCrashes}

@@ -5,23 +5,25 @@ use Rattle.std.specs.Prelude.{Vec, sum_by}
 use Rattle.std.specs.Global.{Global}
 use Rattle.std.proofs.lemmas.Bool.{cases_lt}
 use Rattle.std.proofs.lemmas.List.{length-map, length-replicate}
-use Rattle.ido_base.specs.Layout.{log_words}
-use Rattle.ido_base.specs.declared.log.Log.TheVariants.{V1, V2}
-use Rattle.ido_base.specs.declared.log.Log.{Log}
+use Rattle.log_schemes.specs.Layout.{log_words}
+use Rattle.log_schemes.specs.declared.log.Log.TheVariants.{V1, V2}
+use Rattle.log_schemes.specs.declared.log.Log.{Log}
 use Rattle.ido_base.specs.declared.limits.TheConstants.{MOST_STEPS, VARIABLE_WORDS}
-use Rattle.ido_base.specs.declared.event.Event.{Event}
-use Rattle.ido_base.specs.declared.event.Event.TheVariants.{Crash}
-use Rattle.ido_base.specs.Cores.{played}
-use Rattle.ido_base.specs.Layout.{spread_words, word_count}
+use Rattle.machine_events.specs.declared.event.Event.{Event}
+use Rattle.machine_events.specs.declared.event.Event.TheVariants.{Crash}
+use Rattle.machine_events.specs.Cores.{played}
+use Rattle.ido_base.specs.Layout.{spread_words}
+use Rattle.log_schemes.specs.Layout.{word_count}
 use Rattle.c_tree.specs.Flats as f
 use Rattle.c_tree.specs.Source.{start}
-use Rattle.rv64_isa.specs.declared.object.Object.{Object}
+use Rattle.machine_model.specs.declared.object.Object.{Object}
 use Rattle.rv64_isa.specs.declared.object.Marks.{Marks}
-use Rattle.rv64_isa.specs.Frames.{IsWellFormedWorld}
-use Rattle.rv64_isa.specs.Machine.{World, after_events, machine_from}
-use Rattle.rv64_isa.specs.Programs.{program_of, slot_of}
-use Rattle.rv64_isa.specs.Schedule.{first_steps, steps_along, LifeSchedules, all_lives, schedules}
-use Rattle.rv64_isa.proofs.Public.{crashes_simulate}
+use Rattle.machine_model.specs.Frames.{IsWellFormedWorld}
+use Rattle.machine_model.specs.Machine.{World, after_events, machine_from}
+use Rattle.rv64_isa.specs.Programs.{slot_of}
+use Rattle.machine_model.specs.Objects.{program_of}
+use Rattle.machine_model.specs.Schedule.{first_steps, steps_along, LifeSchedules, all_lives, schedules}
+use Rattle.machine_model.proofs.Public.{crashes_simulate}
 use Rattle.flow_graph.specs.declared.cuts.Cuts.{Cuts}
 use Rattle.flat_compile.specs.TranslatedForms.{IsTranslatedAs}
 use Rattle.compiler_correctness.specs.Compilations.{IsCompilation}

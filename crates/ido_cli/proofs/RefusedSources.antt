@@ -1,7 +1,7 @@
 -- What is answered to a source that isn't compiled.
 use Rattle.std.proofs.Common.{◌≡◌, ℕ, Bool, List, ap, ◌∙◌, subst}
 use Rattle.std.specs.Prelude.{Err}
-use Rattle.ido_base.specs.declared.event.Event.{Event}
+use Rattle.machine_events.specs.declared.event.Event.{Event}
 use Rattle.ido_compile.specs.LoggedTexts.{IsRefusedAs}
 use Rattle.flat_compile.specs.TranslatedForms.{command_log}
 use Rattle.compiler_correctness.specs.Translations.{Translation}

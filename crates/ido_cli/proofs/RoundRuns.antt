@@ -3,8 +3,8 @@ use Rattle.std.proofs.Common.{◌≡◌, refl, ℕ, ◌+◌, ◌<◌, ◌≤◌,
 use Rattle.std.proofs.Common.{true, false}
 use Rattle.std.proofs.lemmas.Bool.{cases_eq}
 use Rattle.std.proofs.lemmas.List.{append-nil}
-use Rattle.ido_base.specs.declared.event.Event.{Event}
-use Rattle.ido_base.specs.declared.event.Event.TheVariants.{Step}
+use Rattle.machine_events.specs.declared.event.Event.{Event}
+use Rattle.machine_events.specs.declared.event.Event.TheVariants.{Step}
 use Rattle.run_tracker.specs.ObjectLives.{Course, LifeConfig, is_stopped, opening_of, world_of}
 use Rattle.run_tracker.proofs.Public.{played_is}
 use Rattle.ido_cli.specs.ThreadedRuns.{AreRounds, all_stopped, full, is_stopped_after, most_leg_events, next_round, passes, steps}

@@ -2,17 +2,17 @@
 use Rattle.std.proofs.Common.{◌≡◌, ℕ, ◌≤◌, List, ◌++◌, length, map, ap, ap₂, sym, subst, ◌∙◌, arith, Result, Ok, Err}
 use Rattle.std.specs.Prelude.{sum_by}
 use Rattle.std.proofs.lemmas.List.{length-map, take-append-drop}
-use Rattle.ido_base.specs.declared.event.Event.{Event}
+use Rattle.machine_events.specs.declared.event.Event.{Event}
 use Rattle.ido_base.specs.declared.limits.TheConstants.{MOST_STEPS}
 use Rattle.ido_base.specs.Layout.{aligned_up, end_from}
 use Rattle.c_tree.specs.Flats.{Flat, flat_of}
 use Rattle.c_tree.specs.Source.{start}
 use Rattle.c_tree.specs.WellFormed.{shape_of}
-use Rattle.rv64_isa.specs.declared.object.Object.{Object}
+use Rattle.machine_model.specs.declared.object.Object.{Object}
 use Rattle.rv64_isa.specs.declared.object.Marks.{Marks}
-use Rattle.rv64_isa.specs.Executables.{Executable}
+use Rattle.machine_model.specs.Executables.{Executable}
 use Rattle.rv64_isa.specs.Programs.{slot_of}
-use Rattle.rv64_isa.specs.Schedule.{all_lives}
+use Rattle.machine_model.specs.Schedule.{all_lives}
 use Rattle.flow_graph.specs.declared.cuts.Cuts.{Cuts}
 use Rattle.flow_graph.specs.Lowering.{lowered}
 use Rattle.flow_graph.specs.Nodes.{Graph}
@@ -42,8 +42,8 @@ use Rattle.ido_cli.specs.CompiledImages.{no_element, no_logs, no_state, no_varia
 use Rattle.ido_cli.specs.CompiledImages as answers
 use Rattle.c_tree.specs.declared.rule.Rule.{Rule}
 use Rattle.ido_base.specs.declared.place.Place.{Place}
-use Rattle.ido_base.specs.declared.log.Log.{Log}
-use Rattle.ido_base.specs.declared.log.Log.TheVariants.{V2}
+use Rattle.log_schemes.specs.declared.log.Log.{Log}
+use Rattle.log_schemes.specs.declared.log.Log.TheVariants.{V2}
 use Rattle.image_checks.specs.Laws.{RunsLeaveNoFault, RunsLeaveReferences}
 use Rattle.image_checks.specs.Logs.{logs_of}
 use Rattle.image_checks.specs.Schedules.{IsLivesFault, schedules_of}

@@ -2,18 +2,18 @@
 use Rattle.std.proofs.Common.{◌≡◌, ℕ, ◌+◌, ◌*◌, ◌/◌, ◌≤◌, List, length, map, take, drop, ap, subst, ◌∙◌, arith}
 use Rattle.std.specs.Prelude.{sum_by}
 use Rattle.std.proofs.lemmas.List.{length-map}
-use Rattle.ido_base.specs.Layout.{log_words}
-use Rattle.ido_base.specs.declared.log.Log.TheVariants.{V2}
-use Rattle.ido_base.specs.declared.log.Log.{Log}
+use Rattle.log_schemes.specs.Layout.{log_words}
+use Rattle.log_schemes.specs.declared.log.Log.TheVariants.{V2}
+use Rattle.log_schemes.specs.declared.log.Log.{Log}
 use Rattle.ido_base.specs.declared.limits.TheConstants.{VARIABLE_WORDS}
-use Rattle.ido_base.specs.declared.event.Event.{Event}
+use Rattle.machine_events.specs.declared.event.Event.{Event}
 use Rattle.c_tree.specs.Flats as f
-use Rattle.rv64_isa.specs.declared.object.Object.{Object}
+use Rattle.machine_model.specs.declared.object.Object.{Object}
 use Rattle.rv64_isa.specs.declared.object.Marks.{Marks}
-use Rattle.rv64_isa.specs.Executables.{first_world}
-use Rattle.rv64_isa.specs.Machine.{World}
+use Rattle.machine_model.specs.Executables.{first_world}
+use Rattle.machine_model.specs.Machine.{World}
 use Rattle.rv64_isa.specs.Programs.{slot_of}
-use Rattle.rv64_isa.specs.Schedule.{Steps, all_lives, schedules}
+use Rattle.machine_model.specs.Schedule.{Steps, all_lives, schedules}
 use Rattle.flow_graph.specs.declared.cuts.Cuts.{Cuts}
 use Rattle.flat_compile.specs.TranslatedForms.{IsTranslated}
 use Rattle.compiler_correctness.specs.Compilations.{IsCompilation}

@@ -4,7 +4,7 @@ use Rattle.std.specs.Prelude.{Vec, sum_by}
 use Rattle.std.specs.Global.{Global}
 use Rattle.std.proofs.lemmas.List.{length-map}
 use Rattle.std.proofs.lemmas.List.Sums.{sum_by-cons}
-use Rattle.rv64_isa.specs.Schedule.{Steps, schedules}
+use Rattle.machine_model.specs.Schedule.{Steps, schedules}
 use Rattle.run_scripts.specs.links.ReportViews.{steps_of}
 use Rattle.crash_images.specs.Contents.{Contents, contents}
 use Rattle.crash_images.specs.ImageDecoder.{IsReadAs}

@@ -1,8 +1,8 @@
 -- What is answered to a script that is read, and to one that isn't.
 use Rattle.std.proofs.Common.{◌≡◌, ℕ, ◌+◌, ◌-◌, List, length, sym, ap, ◌∙◌, subst, Option, Some, None, IfSome, IsSome, All}
-use Rattle.rv64_isa.specs.Machine as isa
-use Rattle.ido_base.specs.declared.log.Log.{Log}
-use Rattle.ido_base.specs.declared.event.Event.{Event}
+use Rattle.machine_model.specs.Machine as isa
+use Rattle.log_schemes.specs.declared.log.Log.{Log}
+use Rattle.machine_events.specs.declared.event.Event.{Event}
 use Rattle.c_tree.specs.Flats as f
 use Rattle.ido_compile.specs.LoggedTexts.{IsAcceptedAs}
 use Rattle.flat_compile.specs.TranslatedForms.{command_log}

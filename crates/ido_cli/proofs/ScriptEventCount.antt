@@ -3,8 +3,8 @@ use Rattle.std.proofs.Common.{◌≡◌, refl, ℕ, ◌-◌, ◌≤◌, List, []
 use Rattle.std.proofs.Common.{Bool, true, false, Option, Some, None, arith, length-append, nat_lt}
 use Rattle.std.specs.Prelude.{if◌then◌else◌}
 use Rattle.std.proofs.lemmas.Bool.{ltb-false}
-use Rattle.ido_base.specs.Cores.{Behaviour, played}
-use Rattle.ido_base.specs.declared.event.Event.{Event}
+use Rattle.machine_events.specs.Cores.{Behaviour, played}
+use Rattle.machine_events.specs.declared.event.Event.{Event}
 use Rattle.run_scripts.specs.Plays.{PlayFault, TooMany, BadStart, PastFew, fault_within, is_refused, line_events, script_events}
 use Rattle.run_scripts.specs.Scripts.{Line}
 

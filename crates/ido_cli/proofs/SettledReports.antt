@@ -2,12 +2,12 @@
 use Rattle.std.proofs.Common.{◌≡◌, ◌⊎◌, inl, inr, refl, ℕ, zero, suc, ◌+◌, ◌<◌, ◌≤◌, List, [], ◌∷◌, length}
 use Rattle.std.proofs.Common.{map, filter, not, Bool, true, false, sym, ap, ap₂, ◌∙◌, subst, ℤ, arith}
 use Rattle.std.proofs.lemmas.Bool.{and_parts, cases_lt}
-use Rattle.ido_base.specs.declared.event.Event.{Event}
+use Rattle.machine_events.specs.declared.event.Event.{Event}
 use Rattle.c_tree.specs.Flats as f
 use Rattle.c_tree.specs.Source as m
-use Rattle.rv64_isa.specs.Machine.{World, numbers_from}
-use Rattle.rv64_isa.specs.Schedule.{schedules}
-use Rattle.rv64_isa.specs.Machine.{is_settled, is_settled_hart, are_settled}
+use Rattle.machine_model.specs.Machine.{World, numbers_from}
+use Rattle.machine_model.specs.Schedule.{schedules}
+use Rattle.machine_model.specs.Machine.{is_settled, is_settled_hart, are_settled}
 use Rattle.source_machine.specs.Lives.{after_lives, ended_lives}
 use Rattle.variable_words.specs.Variables.{durable_variables}
 use Rattle.compiler_correctness.specs.Translations.{Translation, world, steps, source}

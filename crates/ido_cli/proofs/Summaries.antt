@@ -1,7 +1,7 @@
 -- The summary of a run: that of the source's own run, where it is settled.
 use Rattle.std.proofs.Common.{◌≡◌, ℕ, List, [], ap, ◌∙◌}
-use Rattle.ido_base.specs.declared.event.Event.{Event}
-use Rattle.rv64_isa.specs.Schedule.{schedules}
+use Rattle.machine_events.specs.declared.event.Event.{Event}
+use Rattle.machine_model.specs.Schedule.{schedules}
 use Rattle.compiler_correctness.specs.Translations.{Translation, source, steps, world}
 use Rattle.compiler_correctness.specs.Compilations.{IsCompilation}
 use Rattle.run_scripts.specs.Reports as r

@@ -4,15 +4,15 @@ use Rattle.std.proofs.Common.{◌∙◌, subst, arith, length-append, Option, So
 use Rattle.std.specs.Prelude.{◌-◌, Err, IfSome, codes, decimal, flat_map, nat_le}
 use Rattle.std.proofs.lemmas.Bool.{leb-true}
 use Rattle.std.proofs.lemmas.Fmt.{length-decimal-le}
-use Rattle.ido_base.specs.declared.log.Log.{Log}
+use Rattle.log_schemes.specs.declared.log.Log.{Log}
 use Rattle.ido_base.specs.Places.{line_feed}
-use Rattle.ido_base.specs.declared.event.Event.{Event}
+use Rattle.machine_events.specs.declared.event.Event.{Event}
 use Rattle.ido_base.specs.declared.limits.TheConstants.{MOST_SOURCE_BYTES}
 use Rattle.c_tree.specs.Flats as f
-use Rattle.rv64_isa.specs.declared.object.Object.{Object}
+use Rattle.machine_model.specs.declared.object.Object.{Object}
 use Rattle.rv64_isa.specs.declared.object.Marks.{Marks}
-use Rattle.rv64_isa.specs.Machine.{IsEviction, World}
-use Rattle.rv64_isa.specs.Schedule.{Steps, schedules}
+use Rattle.machine_model.specs.Machine.{IsEviction, World}
+use Rattle.machine_model.specs.Schedule.{Steps, schedules}
 use Rattle.flow_graph.specs.declared.cuts.Cuts.{Cuts}
 use Rattle.compiler_correctness.specs.Translations.{Translation, world, translation_to}
 use Rattle.compiler_correctness.specs.Compilations.{IsCompilation}

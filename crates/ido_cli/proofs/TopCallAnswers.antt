@@ -9,10 +9,10 @@ use Rattle.ido_outside.specs.Sink.{Adds}
 use Rattle.ido_cli.specs.declared.said.Said.{Said}
 use Rattle.ido_cli.specs.declared.top.Unsaid.{Unsaid}
 use Rattle.ido_cli.specs.declared.top.Unsaid.TheVariants.{Failed, Memory}
-use Rattle.ido_base.specs.declared.event.Event.{Event}
+use Rattle.machine_events.specs.declared.event.Event.{Event}
 use Rattle.ido_base.specs.declared.limits.TheConstants.{MOST_INPUT_BYTES}
 use Rattle.c_tree.specs.Flats as f
-use Rattle.rv64_isa.specs.Machine.{World}
+use Rattle.machine_model.specs.Machine.{World}
 use Rattle.compiler_correctness.specs.Translations.{Translation}
 use Rattle.ido_cli.specs.declared.command.Command.{Command}
 use Rattle.ido_cli.specs.declared.command.Command.TheVariants as command

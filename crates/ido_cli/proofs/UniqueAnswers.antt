@@ -1,7 +1,7 @@
 -- Words and an input have one answer, where it stands on no compilation.
 use Rattle.std.proofs.Common.{◌≡◌, ℕ, ◌+◌, List, [], ◌∷◌, length, Option, Some, None, Result, Ok}
 use Rattle.std.proofs.Common.{Err, Bool, true, false, codes, sym, ap, ap₂, ◌∙◌, subst, arith}
-use Rattle.ido_base.specs.declared.event.Event.{Event}
+use Rattle.machine_events.specs.declared.event.Event.{Event}
 use Rattle.ido_base.specs.declared.place.Place.{Place}
 use Rattle.c_tree.specs.Flats as f
 use Rattle.c_tree.specs.Source.{start}
@@ -13,7 +13,7 @@ use Rattle.ido_cli.specs.declared.command.Command.TheVariants as command
 use Rattle.c_tree.specs.declared.rule.Rule as r
 use Rattle.ido_compile.specs.LoggedTexts.{IsAcceptedAs, IsRefusedAs}
 use Rattle.flat_compile.specs.TranslatedForms.{command_log}
-use Rattle.rv64_isa.specs.Machine.{World}
+use Rattle.machine_model.specs.Machine.{World}
 use Rattle.compiler_correctness.specs.Translations.{Translation}
 use Rattle.ido_cli.specs.Draws.{IsGenerated}
 use Rattle.ido_cli.specs.Images.{IsImageAfter}

@@ -8,9 +8,9 @@ use Rattle.ido_base.specs.Layout.{variable_lines}
 use Rattle.ido_base.specs.Words.{Word, durable_value}
 use Rattle.ido_base.specs.declared.limits.TheConstants.{MOST_THREADS, VARIABLE_WORDS}
 use Rattle.c_tree.specs.Flats.{flat_of, thread_of}
-use Rattle.rv64_isa.specs.Executables.{Executable}
+use Rattle.machine_model.specs.Executables.{Executable}
 use Rattle.rv64_isa.specs.Programs.{slot_of}
-use Rattle.rv64_isa.specs.Schedule.{schedules}
+use Rattle.machine_model.specs.Schedule.{schedules}
 use Rattle.compiler_correctness.specs.Images.{variable_words}
 use Rattle.compiler_correctness.specs.Translations.{Translation}
 use Rattle.file_fields.specs.Fields.{Fault, Version, magic_at, number_at, ◌>>=◌}
@@ -25,7 +25,7 @@ use Rattle.ido_compile.specs.declared.error.CompileError.{CompileError}
 use Rattle.ido_compile.specs.declared.error.CompileError.TheVariants as compiling
 use Rattle.ido_compile.specs.CompileAnswers.{IsCompiledAs, IsCompileAnswerAs, translation_in}
 use Rattle.ido_compile.specs.LoggedTexts.{IsRefusedAs}
-use Rattle.ido_base.specs.declared.log.Log.TheVariants.{V2}
+use Rattle.log_schemes.specs.declared.log.Log.TheVariants.{V2}
 use Rattle.image_checks.specs.declared.error.ImageError.{ImageError}
 use Rattle.image_checks.specs.declared.error.ImageError.TheVariants as e
 use Rattle.run_scripts.specs.Runs.{schedule_of}

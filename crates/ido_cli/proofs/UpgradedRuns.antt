@@ -4,24 +4,25 @@ use Rattle.std.proofs.Common.{refl, ap, ap₂, sym, subst, ◌∙◌, arith, Ok,
 use Rattle.std.specs.Prelude.{if◌then◌else◌, sum_by}
 use Rattle.std.proofs.lemmas.List.{length-map, length-replicate, length-take-le}
 use Rattle.std.proofs.lemmas.Option.{none-some}
-use Rattle.ido_base.specs.declared.event.Event.{Event}
-use Rattle.ido_base.specs.declared.event.Event.TheVariants.{Step, Evict, Crash, Start}
+use Rattle.machine_events.specs.declared.event.Event.{Event}
+use Rattle.machine_events.specs.declared.event.Event.TheVariants.{Step, Evict, Crash, Start}
 use Rattle.ido_base.specs.declared.limits.TheConstants.{MOST_STEPS, VARIABLE_WORDS}
-use Rattle.ido_base.specs.declared.log.Log.{Log}
-use Rattle.ido_base.specs.declared.log.Log.TheVariants.{V1, V2}
+use Rattle.log_schemes.specs.declared.log.Log.{Log}
+use Rattle.log_schemes.specs.declared.log.Log.TheVariants.{V1, V2}
 use Rattle.ido_base.specs.declared.place.Place.{Place}
-use Rattle.ido_base.specs.Layout.{aligned_up, end_from, log_words, spread_words, variable_lines, word_count}
+use Rattle.ido_base.specs.Layout.{aligned_up, end_from, spread_words, variable_lines}
+use Rattle.log_schemes.specs.Layout.{log_words, word_count}
 use Rattle.ido_base.specs.Words.{durable_value}
 use Rattle.c_tree.specs.declared.rule.Rule.{Rule}
 use Rattle.c_tree.specs.Flats.{Flat, flat_of}
 use Rattle.c_tree.specs.Source.{start}
 use Rattle.c_tree.specs.WellFormed.{shape_of}
 use Rattle.source_machine.specs.Lives.{ended_lives, runs_lives}
-use Rattle.rv64_isa.specs.Frames.{IsWellFormedWorld}
-use Rattle.rv64_isa.specs.Machine.{World, after_crash_of, is_settled, numbers_from}
+use Rattle.machine_model.specs.Frames.{IsWellFormedWorld}
+use Rattle.machine_model.specs.Machine.{World, after_crash_of, is_settled, numbers_from}
 use Rattle.rv64_isa.specs.Programs.{slot_of}
-use Rattle.rv64_isa.specs.Schedule.{all_lives, schedules}
-use Rattle.rv64_isa.proofs.Public.{crashes_simulate}
+use Rattle.machine_model.specs.Schedule.{all_lives, schedules}
+use Rattle.machine_model.proofs.Public.{crashes_simulate}
 use Rattle.flow_graph.specs.Lowering.{lowered}
 use Rattle.file_fields.specs.Fields.{Fault, ◌>>=◌}
 use Rattle.file_fields.proofs.Public.{bind_ok, ok_is}

@@ -1,8 +1,8 @@
 -- Runs on threads: moments, evictions and sums at a few inputs.
 use Rattle.std.specs.Prelude.{◌≡◌, refl, [], ◌∷◌, map, Some, None, codes, pos, neg_ℤ}
 use Rattle.std.specs.Fmt.{digits}
-use Rattle.ido_base.specs.declared.log.Log.TheVariants.{V1}
-use Rattle.ido_base.specs.declared.event.Event.TheVariants.{Step, Evict, Crash}
+use Rattle.log_schemes.specs.declared.log.Log.TheVariants.{V1}
+use Rattle.machine_events.specs.declared.event.Event.TheVariants.{Step, Evict, Crash}
 use Rattle.run_scripts.specs.Reports.{ReportedState, hart_text, reported, unsettled_line}
 use Rattle.ido_cli.specs.Loads.{settled_summary, summary_by, sums_text, total}
 use Rattle.ido_cli.specs.ThreadedRuns.{evictions_at, evictions_from, moment_after}

@@ -8,7 +8,7 @@ use Rattle.ido_compile.specs.declared.compiler.Compiled.{Compiled}
 use Rattle.ido_compile.specs.CompileAnswers.{IsCompiledAs}
 use Rattle.ido_compile.specs.LoggedTexts.{IsRefusedAs}
 use Rattle.image_checks.specs.declared.error.ImageError.{ImageError}
-use Rattle.rv64_isa.specs.Schedule.{all_lives}
+use Rattle.machine_model.specs.Schedule.{all_lives}
 use Rattle.run_tracker.specs.links.EarlierLives.{lives_in}
 use Rattle.image_checks.specs.declared.error.ImageError.TheVariants as e
 use Rattle.ido_cli.specs.declared.compiled_image.Image.{Image}

@@ -1,6 +1,6 @@
 -- What is said of a drawn run of a compiled source, and of a source that is made of numbers.
 use Rattle.std.specs.Prelude.{◌≡◌, ℕ, ◌+◌, ◌-◌, ◌/◌, List, length}
-use Rattle.ido_base.specs.declared.event.Event.{Event}
+use Rattle.machine_events.specs.declared.event.Event.{Event}
 use Rattle.ido_base.specs.declared.limits.TheConstants.{LINE_BYTES}
 use Rattle.compiler_correctness.specs.Translations.{Translation}
 use Rattle.run_scripts.specs.Draws.{drawn_run}

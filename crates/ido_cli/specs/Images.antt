@@ -1,6 +1,6 @@
 -- What a crash after a script would leave, as the bytes of an image.
 use Rattle.std.specs.Prelude.{◌≡◌, ℕ, List}
-use Rattle.ido_base.specs.declared.event.Event.{Event}
+use Rattle.machine_events.specs.declared.event.Event.{Event}
 use Rattle.compiler_correctness.specs.Translations.{Translation}
 use Rattle.crash_images.specs.ImageDecoder.{IsReadAs}
 use Rattle.crash_images.specs.declared.version.ImageVersion.TheVariants.{Third}

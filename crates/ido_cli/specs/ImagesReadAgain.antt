@@ -1,9 +1,9 @@
 -- What reading the image file of a run again comes to.
 use Rattle.std.specs.Prelude.{◌≡◌, ◌≢◌, ◌≤◌, ℕ, List, length, sum_by, Result, Ok, Err}
-use Rattle.ido_base.specs.declared.event.Event.{Event}
+use Rattle.machine_events.specs.declared.event.Event.{Event}
 use Rattle.ido_base.specs.declared.limits.TheConstants.{MOST_STEPS}
 use Rattle.c_tree.specs.Flats.{Flat, flat_of}
-use Rattle.rv64_isa.specs.declared.object.Object.{Object}
+use Rattle.machine_model.specs.declared.object.Object.{Object}
 use Rattle.rv64_isa.specs.declared.object.Marks.{Marks}
 use Rattle.flow_graph.specs.declared.cuts.Cuts.{Cuts}
 use Rattle.ido_compile.specs.LoggedTexts.{IsAcceptedAs}
@@ -16,13 +16,13 @@ use Rattle.crash_images.specs.ImageDecoder.{IsReadAs}
 use Rattle.crash_images.specs.declared.version.ImageVersion.TheVariants.{Third}
 use Rattle.image_checks.specs.declared.error.ImageError.{ImageError}
 use Rattle.image_checks.specs.declared.error.ImageError.TheVariants as e
-use Rattle.ido_base.specs.declared.log.Log.TheVariants.{V2}
+use Rattle.log_schemes.specs.declared.log.Log.TheVariants.{V2}
 use Rattle.image_checks.specs.Checks.{IsThreadFault}
 use Rattle.image_checks.specs.Logs.{logs_of}
 use Rattle.image_checks.specs.RunImages.{left_by, file_contents, file_state}
 use Rattle.ido_cli.specs.declared.compiled_image.Image.{Image}
 use Rattle.ido_cli.specs.CompiledImages.{IsImageAnswer}
-use Rattle.rv64_isa.specs.Schedule.{all_lives}
+use Rattle.machine_model.specs.Schedule.{all_lives}
 use Rattle.run_tracker.specs.links.EarlierLives.{lives_in}
 
 -- where bytes spell the file of a run of the translation

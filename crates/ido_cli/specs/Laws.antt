@@ -1,7 +1,7 @@
 -- What words and an input are answered is at most one thing; an image that `image` wrote is recovered from, and a journal is played.
 use Rattle.std.specs.Prelude.{◌≡◌, ◌≤◌, ℕ, List, All, length, true, Option, Some, None}
-use Rattle.ido_base.specs.declared.event.Event.{Event}
-use Rattle.ido_base.specs.Cores.{IsValidNow}
+use Rattle.machine_events.specs.declared.event.Event.{Event}
+use Rattle.machine_events.specs.Cores.{IsValidNow}
 use Rattle.ido_base.specs.declared.limits.TheConstants.{MOST_EVENTS}
 use Rattle.c_tree.specs.Flats.{Flat}
 use Rattle.ido_compile.specs.LoggedTexts.{IsAcceptedAs}
@@ -19,7 +19,7 @@ use Rattle.ido_cli.specs.Plays.{IsRunBy, IsTranslationOf, beginning}
 use Rattle.run_tracker.specs.ObjectLives.{living}
 use Rattle.ido_cli.specs.Recoveries.{IsRecoveredRun}
 use Rattle.ido_cli.specs.Answers.{Answer, IsPastLimits, PlayAnswer, RecoverAnswer, file_in}
-use Rattle.rv64_isa.specs.Schedule.{schedules}
+use Rattle.machine_model.specs.Schedule.{schedules}
 use Rattle.compiler_correctness.specs.Images.{image_in, steps_from, world_from}
 use Rattle.ido_compile.specs.CompileAnswers.{translation_in}
 use Rattle.image_checks.specs.RunImages.{left_by}

@@ -1,10 +1,10 @@
 -- What is said of the run of `load`.
 use Rattle.std.specs.Prelude.{◌≡◌, ℕ, List, [], ◌∷◌, ◌++◌, sum, true, ℤ, pos, ◌+ℤ◌, codes, decimal, flat_map}
 use Rattle.std.specs.Fmt.{signed_decimal}
-use Rattle.ido_base.specs.declared.event.Event.{Event}
+use Rattle.machine_events.specs.declared.event.Event.{Event}
 use Rattle.c_tree.specs.Source.{start, is_between}
 use Rattle.source_machine.specs.Lives.{after_lives, runs_lives}
-use Rattle.rv64_isa.specs.Schedule.{schedules}
+use Rattle.machine_model.specs.Schedule.{schedules}
 use Rattle.compiler_correctness.specs.Translations.{Translation, world, steps}
 use Rattle.compiler_correctness.specs.Compilation.{AreSectionsKept}
 use Rattle.run_scripts.specs.Reports.{ReportedState, line, numbers_in, unsettled_line}

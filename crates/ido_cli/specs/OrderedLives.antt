@@ -1,6 +1,6 @@
 -- Lives of texts whose threads take their locks in their order.
 use Rattle.std.specs.Prelude.{◌≡◌, ◌↔◌, ℕ, List, length, None}
-use Rattle.ido_base.specs.Cores.{least_enabled, played}
+use Rattle.machine_events.specs.Cores.{least_enabled, played}
 use Rattle.c_tree.specs.Flats.{flat_of}
 use Rattle.deadlock_freedom.specs.Deadlocks.{HaveStopped}
 use Rattle.ido_compile.specs.declared.compiler.Compiled.{Compiled}

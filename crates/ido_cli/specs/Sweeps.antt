@@ -2,9 +2,9 @@
 use Rattle.std.specs.Prelude.{◌≡◌, ◌≢◌, ℕ, ◌+◌, ◌≤◌, List, [], ◌∷◌, ◌++◌, length, map, replicate, take, Bool, true, false, slice_get, Some, None}
 use Rattle.std.specs.Prelude.{◌&&◌, codes, decimal}
 use Rattle.ido_base.specs.declared.limits.TheConstants.{MOST_EVENTS}
-use Rattle.ido_base.specs.declared.event.Event.{Event}
-use Rattle.ido_base.specs.declared.event.Event.TheVariants.{Crash}
-use Rattle.ido_base.specs.Cores.{played}
+use Rattle.machine_events.specs.declared.event.Event.{Event}
+use Rattle.machine_events.specs.declared.event.Event.TheVariants.{Crash}
+use Rattle.machine_events.specs.Cores.{played}
 use Rattle.compiler_correctness.specs.Translations.{Translation}
 use Rattle.hart_driver.specs.declared.sweep.Outcome.{Outcome}
 use Rattle.hart_driver.specs.Outcomes.{AreOutcomes}

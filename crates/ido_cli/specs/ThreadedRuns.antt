@@ -1,10 +1,10 @@
 -- Runs on threads: legs, the crashes between them, and rounds of the caller.
 use Rattle.std.specs.Prelude.{◌≡◌, ℕ, ◌+◌, ◌-◌, ◌<◌, ◌≤◌, List, [], ◌∷◌, ◌++◌, length, count_by, min, Bool, true, false, Option, Some, None, option_map}
 use Rattle.std.specs.Prelude.{◌==◌, if◌then◌else◌}
-use Rattle.ido_base.specs.declared.event.Event.{Event}
-use Rattle.ido_base.specs.declared.event.Event.TheVariants.{Step, Evict, Crash, Start}
-use Rattle.ido_base.specs.declared.log.Log.{Log}
-use Rattle.ido_base.specs.Cores.{played}
+use Rattle.machine_events.specs.declared.event.Event.{Event}
+use Rattle.machine_events.specs.declared.event.Event.TheVariants.{Step, Evict, Crash, Start}
+use Rattle.log_schemes.specs.declared.log.Log.{Log}
+use Rattle.machine_events.specs.Cores.{played}
 use Rattle.compiler_correctness.specs.Translations.{Translation}
 use Rattle.hart_driver.specs.Legs.{Leg, IsLeg}
 use Rattle.run_scripts.specs.Draws.{drawn_evictions}

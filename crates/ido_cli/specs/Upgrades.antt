@@ -1,14 +1,14 @@
 -- What is said of an image of an older version that is brought to the newest: recovered first, so that every thread stands between sections.
 use Rattle.std.specs.Prelude.{◌≡◌, ℕ, ◌+◌, ◌*◌, ◌<◌, ◌≤◌, List, [], length, map, replicate, sum_by, take, true, false, None, Err, codes}
-use Rattle.ido_base.specs.declared.event.Event.{Event}
+use Rattle.machine_events.specs.declared.event.Event.{Event}
 use Rattle.ido_base.specs.declared.limits.TheConstants.{MOST_STEPS}
-use Rattle.ido_base.specs.declared.log.Log.TheVariants.{V2}
+use Rattle.log_schemes.specs.declared.log.Log.TheVariants.{V2}
 use Rattle.ido_base.specs.declared.place.Place.{Place}
-use Rattle.ido_base.specs.Layout.{log_words}
+use Rattle.log_schemes.specs.Layout.{log_words}
 use Rattle.ido_base.specs.Words.{durable_value}
 use Rattle.c_tree.specs.declared.rule.Rule.{Rule}
-use Rattle.rv64_isa.specs.Machine.{World, is_settled}
-use Rattle.rv64_isa.specs.Schedule.{schedules}
+use Rattle.machine_model.specs.Machine.{World, is_settled}
+use Rattle.machine_model.specs.Schedule.{schedules}
 use Rattle.compiler_correctness.specs.Images as left
 use Rattle.compiler_correctness.specs.Images.{image_in, steps_from, variable_words, world_from}
 use Rattle.compiler_correctness.specs.Translations.{Translation}

@@ -12,7 +12,7 @@ ghost use Rattle.file_fields.specs.links.ReaderResults.{Fails};
 ghost use Rattle.ido_compile.specs.CompileAnswers.{IsCompiledAs, IsCompileAnswerAs};
 ghost use Rattle.image_checks.specs.links.Errors.{IsFaultOrMemory};
 ghost use Rattle.ido_cli.specs.CompiledImages.{IsFaultAfter, IsImageAnswer, IsStateAfter};
-ghost use Rattle.rv64_isa.specs.Schedule.{all_lives};
+ghost use Rattle.machine_model.specs.Schedule.{all_lives};
 ghost use Rattle.run_tracker.specs.links.EarlierLives.{lives_in};
 ghost use Rattle.ido_cli.specs.links.BegunImages.{HasBegun, IsBegun, of_logs};
 ghost use Rattle.ido_cli.specs.links.CompileRefusals.{image_fault};
@@ -22,12 +22,12 @@ use crash_images::reading::{read_logs, read_source, read_variables, read_version
 use crash_images::state::State;
 use crash_images::version::ImageVersion;
 use file_fields::error::ReadError;
-use ido_base::log::Log;
 use ido_base::memory::OutOfMemory;
 use ido_compile::{CompileError, Compiled, compile_as};
 use image_checks::error::ImageError;
 use image_checks::references::check_references;
 use image_checks::state::check_state;
+use log_schemes::log::Log;
 use std::alloc::Global;
 
 /// The schedules of the kept steps, one for each life: of each step the thread that takes it.

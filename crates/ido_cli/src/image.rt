@@ -5,18 +5,18 @@ ghost use Rattle.crash_images.specs.Contents.{contents, most_logs};
 ghost use Rattle.crash_images.specs.ImageDecoder.{IsReadAs};
 ghost use Rattle.crash_images.specs.ImageEncoder.{spelling};
 ghost use Rattle.crash_images.specs.declared.version.ImageVersion.TheVariants.{Third};
-ghost use Rattle.ido_base.specs.declared.log.Log.TheVariants.{V2};
-ghost use Rattle.rv64_isa.specs.Schedule.{schedules};
+ghost use Rattle.log_schemes.specs.declared.log.Log.TheVariants.{V2};
+ghost use Rattle.machine_model.specs.Schedule.{schedules};
 ghost use Rattle.run_scripts.specs.links.ReportViews.{steps_of};
 ghost use Rattle.run_tracker.specs.ObjectLives.{left_words, steps_in, variable_words_in, world_of};
 
 use crate::report::kept_schedules;
 use crate::said::Said;
 use crash_images::writing::write_image;
-use ido_base::log::Log;
 use ido_base::memory::OutOfMemory;
+use log_schemes::log::Log;
+use machine_model::object::Object;
 use run_tracker::life::Life;
-use rv64_isa::object::Object;
 use std::alloc::Global;
 
 /// The schedule of an image of one life.

@@ -7,7 +7,7 @@ ghost use Rattle.ido_cli.specs.ObjectListing.{word_line, word_lines, thread_line
 use crate::instruction::{hex_word, put, put_instruction};
 use ido_base::limits::CODE_BASE;
 use ido_base::memory::OutOfMemory;
-use rv64_isa::object::Object;
+use machine_model::object::Object;
 use rv64_isa::word::decode;
 use std::alloc::Global;
 

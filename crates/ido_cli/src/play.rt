@@ -3,7 +3,7 @@ ghost use Rattle.std.specs.Prelude.{◌≡◌, ◌+◌, ◌≤◌, All, length, 
 ghost use Rattle.ido_base.specs.declared.limits.TheConstants.{MOST_EVENTS, MOST_INPUT_BYTES, MOST_SOURCE_BYTES};
 ghost use Rattle.c_tree.specs.Flats.{flat_of};
 ghost use Rattle.flat_compile.specs.TranslatedForms.{IsTranslated};
-ghost use Rattle.rv64_isa.specs.Machine.{IsEviction};
+ghost use Rattle.machine_model.specs.Machine.{IsEviction};
 ghost use Rattle.run_scripts.specs.Scripts.{IsDoable};
 ghost use Rattle.run_scripts.specs.links.ScriptViews as scripts;
 ghost use Rattle.compiler_correctness.specs.Compilations.{IsCompilation};

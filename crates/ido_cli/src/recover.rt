@@ -1,8 +1,8 @@
 //! The command `recover`: a run that goes on from what a crash has left.
 ghost use Rattle.std.specs.Prelude.{◌≡◌, ◌+◌, ◌*◌, ◌/◌, ◌<◌, ◌≤◌, ◌^◌, length, min, sum_by, IfOk, Some};
 ghost use Rattle.ido_base.specs.declared.limits.TheConstants.{MOST_INPUT_BYTES, MOST_STEPS};
-ghost use Rattle.ido_base.specs.Layout.{log_words};
-ghost use Rattle.rv64_isa.specs.Schedule.{all_lives};
+ghost use Rattle.log_schemes.specs.Layout.{log_words};
+ghost use Rattle.machine_model.specs.Schedule.{all_lives};
 ghost use Rattle.c_tree.specs.Flats.{flat_of};
 ghost use Rattle.compiler_correctness.specs.Compilations.{IsCompilation};
 ghost use Rattle.flat_compile.specs.TranslatedForms.{IsTranslatedAs};

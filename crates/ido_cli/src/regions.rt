@@ -18,11 +18,11 @@ use flat_analysis::Analysis;
 use flat_compile::translate;
 use flow_graph::cuts::Cuts;
 use flow_graph::graph::{Action, Graph, Node, Part};
-use ido_base::log::Log;
 use ido_base::memory::OutOfMemory;
 use ido_compile::laws::translations_are_compilations;
 use ido_compile::{CompileError, checked, flatten};
 use lock_discipline::Held;
+use log_schemes::log::Log;
 use region_cutter::{Stretch, stretches};
 use std::alloc::Global;
 

@@ -3,13 +3,13 @@ ghost use Rattle.std.specs.Prelude.{◌≡◌, ◌≤◌, ◌<◌, ◌^◌, leng
 ghost use Rattle.ido_base.specs.declared.limits.TheConstants.{MOST_THREADS};
 ghost use Rattle.c_tree.specs.Flats.{flat_of};
 ghost use Rattle.c_tree.specs.Source as m;
-ghost use Rattle.rv64_isa.specs.Machine.{numbers_from};
+ghost use Rattle.machine_model.specs.Machine.{numbers_from};
 ghost use Rattle.run_scripts.specs.links.ReportViews as views;
 ghost use Rattle.run_tracker.specs.ObjectLives.{ended_sections, world_of, steps_in};
 ghost use Rattle.c_tree.specs.WellFormed.{shape_of};
 ghost use Rattle.memory_layout.specs.Variables.{HaveRoom};
 ghost use Rattle.ido_cli.specs.Reports.{machine_state, unsettled_harts};
-ghost use Rattle.rv64_isa.specs.Schedule.{schedules};
+ghost use Rattle.machine_model.specs.Schedule.{schedules};
 ghost use Rattle.source_machine.specs.Lives.{ended_lives};
 ghost use Rattle.ido_cli.specs.Runs.{IsReport};
 ghost use Rattle.ido_cli.specs.links.CountedSections.{CountsSections};

@@ -14,7 +14,7 @@ use Rattle.c_tree.specs.Elaboration.{program_from, typed_program}
 use Rattle.c_tree.specs.declared.rule.Rule as r
 use Rattle.c_tree.specs.declared.rule.Rule.TheVariants as rule
 use Rattle.c_tree.specs.declared.flat.Flat.{Flat}
-use Rattle.ido_base.specs.declared.log.Log.{Log}
+use Rattle.log_schemes.specs.declared.log.Log.{Log}
 use Rattle.thread_code.specs.Plans.{language_of}
 use Rattle.ido_compile.specs.LoggedTexts.{IsAcceptedAs}
 

@@ -1,7 +1,7 @@
 -- What refuses a text in the language of a log, or accepts it, does so for the log.
 use Rattle.std.proofs.Common.{◌≡◌, refl, subst, ℕ, List, Some, IfSome}
 use Rattle.std.specs.Prelude.{Err}
-use Rattle.ido_base.specs.declared.log.Log.{Log}
+use Rattle.log_schemes.specs.declared.log.Log.{Log}
 use Rattle.ido_base.specs.declared.place.Place.{Place}
 use Rattle.c_tree.specs.declared.language.Language.{Language}
 use Rattle.c_tree.specs.AcceptedTexts.{IsTyped, IsRanged}

@@ -25,8 +25,8 @@ use Rattle.c_typer.specs.Laws.{OneFirst}
 use Rattle.flow_graph.specs.Liveness.{NodeAt, HasRoom, IsFirstCrowded}
 use Rattle.flow_graph.specs.Lowering.{lowered}
 use Rattle.flow_graph.specs.Nodes.{Node, Graph}
-use Rattle.ido_base.specs.declared.log.Log.{Log}
-use Rattle.ido_base.specs.declared.log.Log.TheVariants.{V1, V2}
+use Rattle.log_schemes.specs.declared.log.Log.{Log}
+use Rattle.log_schemes.specs.declared.log.Log.TheVariants.{V1, V2}
 use Rattle.thread_code.specs.Plans.{language_of}
 use Rattle.ido_compile.specs.LoggedTexts as logged
 use Rattle.ido_compile.specs.Verdicts as laws

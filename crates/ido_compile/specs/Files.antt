@@ -1,10 +1,10 @@
 -- A machine that begins with an image file.
 use Rattle.std.specs.Prelude.{◌≡◌, List}
-use Rattle.ido_base.specs.declared.event.Event.{Event}
+use Rattle.machine_events.specs.declared.event.Event.{Event}
 use Rattle.c_tree.specs.Flats.{Flat}
-use Rattle.rv64_isa.specs.declared.object.Object.{Object}
+use Rattle.machine_model.specs.declared.object.Object.{Object}
 use Rattle.rv64_isa.specs.declared.object.Marks.{Marks}
-use Rattle.rv64_isa.specs.Machine.{machine_from}
+use Rattle.machine_model.specs.Machine.{machine_from}
 use Rattle.flow_graph.specs.declared.cuts.Cuts.{Cuts}
 use Rattle.compiler_correctness.specs.Images.{Image, image_in, world_from}
 use Rattle.compiler_correctness.specs.Translations.{translation_to}

@@ -10,7 +10,7 @@ use Rattle.c_tree.specs.Source.{Thread, start, after_from}
 use Rattle.c_tree.specs.WellFormed.{ArePlain, IsWellFormed}
 use Rattle.c_ranges.specs.RunInvariants.{IsStateOf, IsElement, IsNext, step_exprs, step_indexes}
 use Rattle.c_ranges.specs.Laws.{AreFollowed, IsForeseen}
-use Rattle.ido_base.specs.declared.log.Log.{Log}
+use Rattle.log_schemes.specs.declared.log.Log.{Log}
 use Rattle.ido_compile.specs.LoggedTexts.{IsAcceptedAs}
 
 -- the flat form of a text is well formed

@@ -1,7 +1,7 @@
 -- Which texts are compiled for a log, and the one rule and place by which any other is refused. Each log has its language, in which texts are read, and by
 -- whose prices and lock rules they are checked: where threads list the locks that they hold, few may be held, and each costs something at every node.
 use Rattle.std.specs.Prelude.{◌≡◌, ℕ, List, Some, None}
-use Rattle.ido_base.specs.declared.log.Log.{Log}
+use Rattle.log_schemes.specs.declared.log.Log.{Log}
 use Rattle.ido_base.specs.declared.place.Place.{Place}
 use Rattle.c_tree.specs.declared.rule.Rule.{Rule}
 use Rattle.c_tree.specs.declared.rule.Rule.TheVariants as rule

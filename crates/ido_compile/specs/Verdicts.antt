@@ -1,6 +1,6 @@
 -- What a text comes to is at most one thing.
 use Rattle.std.specs.Prelude.{◌≡◌, ℕ, List}
-use Rattle.ido_base.specs.declared.log.Log.{Log}
+use Rattle.log_schemes.specs.declared.log.Log.{Log}
 use Rattle.ido_base.specs.declared.place.Place.{Place}
 use Rattle.c_tree.specs.Flats.{Flat}
 use Rattle.c_tree.specs.declared.rule.Rule.{Rule}

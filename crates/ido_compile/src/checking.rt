@@ -10,7 +10,7 @@ use crate::error::CompileError;
 use crate::logged::{checked_as, flatten_as};
 use c_tree::flat::Flat;
 use flat_analysis::Analysis;
-use ido_base::log::Log;
+use log_schemes::log::Log;
 use std::alloc::Global;
 
 /// The flat form of a text that keeps all rules of names, kinds, indexes, references, calls and prices; else the rule and the place of the

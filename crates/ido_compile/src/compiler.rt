@@ -7,7 +7,7 @@ use crate::error::CompileError;
 use crate::logged::compile_as;
 use c_tree::flat::Flat;
 use flat_compile::Translated;
-use ido_base::log::Log;
+use log_schemes::log::Log;
 use std::alloc::Global;
 
 /// A text, compiled.

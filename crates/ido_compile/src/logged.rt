@@ -18,8 +18,8 @@ use c_tree::language::Language;
 use c_typer::type_tree;
 use flat_analysis::{Analysis, analyse};
 use flat_compile::{Translated, translate};
-use ido_base::log::Log;
 use ido_base::memory::OutOfMemory;
+use log_schemes::log::Log;
 use std::alloc::Global;
 
 /// The language in which texts are read for a log, and by whose prices and lock rules they are checked.

@@ -2,16 +2,16 @@
 use Rattle.std.proofs.Common.{◌≡◌, refl, ℕ, zero, suc, ◌+◌, ◌<◌, ◌≤◌, List, [], ◌∷◌, length, map, replicate, slice_get, slice_set, Some}
 use Rattle.std.proofs.Common.{true, false, inl, inr, sym, ◌∙◌, ap, subst, arith, length-set}
 use Rattle.std.proofs.lemmas.Bool.{cases_eq}
-use Rattle.ido_base.specs.declared.event.Event.TheVariants.{Start}
-use Rattle.ido_base.specs.declared.event.Reply.TheVariants.{Device}
+use Rattle.machine_events.specs.declared.event.Event.TheVariants.{Start}
+use Rattle.machine_events.specs.declared.event.Reply.TheVariants.{Device}
 use Rattle.ido_base.specs.Words.{Word}
 use Rattle.line_memory.specs.links.Queues.{RepresentsQueue}
 use Rattle.line_memory.specs.links.MemoryRepresentation.{Represents, log_in}
 use Rattle.rv64_isa.specs.declared.object.Slot.{Slot}
-use Rattle.rv64_isa.specs.declared.phase.Phase.{Phase}
-use Rattle.rv64_isa.specs.declared.phase.Phase.TheVariants.{Run}
-use Rattle.rv64_isa.specs.Machine.{Hart as HartModel, World, Outcome, happens, anew, all_anew, can_start}
-use Rattle.rv64_isa.proofs.Public.{anew_found, anew_length, outcome_of, starts_by}
+use Rattle.machine_model.specs.declared.phase.Phase.{Phase}
+use Rattle.machine_model.specs.declared.phase.Phase.TheVariants.{Run}
+use Rattle.machine_model.specs.Machine.{Hart as HartModel, World, Outcome, happens, anew, all_anew, can_start}
+use Rattle.machine_model.proofs.Public.{anew_found, anew_length, outcome_of, starts_by}
 use Rattle.hart_core.specs.declared.hart.Hart.{Hart}
 use Rattle.hart_core.specs.links.Harts.{RepresentsHart}
 use Rattle.ido_machine.specs.Harts.{HartsStand, IsAnew, AreAnew}

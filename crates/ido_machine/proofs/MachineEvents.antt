@@ -3,11 +3,11 @@ use Rattle.std.proofs.Common.{◌≡◌, ℕ, zero, suc, ◌<◌, List, [], ◌�
 use Rattle.std.proofs.Common.{None, Bool, true, false, inl, inr, refl, sym, ◌∙◌, ap, subst, arith, not, ◌&&◌, if◌then◌else◌}
 use Rattle.std.proofs.lemmas.Bool.{cases_eq}
 use Rattle.std.proofs.lemmas.List.{length-set}
-use Rattle.ido_base.specs.declared.event.Event.TheVariants.{Step, Evict, Crash}
-use Rattle.ido_base.specs.declared.event.Reply.{Reply}
-use Rattle.ido_base.specs.declared.log.Log.{Log}
-use Rattle.ido_base.specs.declared.event.Reply.TheVariants.{Device, Moved}
-use Rattle.ido_base.specs.Cores.{is_idle}
+use Rattle.machine_events.specs.declared.event.Event.TheVariants.{Step, Evict, Crash}
+use Rattle.machine_events.specs.declared.event.Reply.{Reply}
+use Rattle.log_schemes.specs.declared.log.Log.{Log}
+use Rattle.machine_events.specs.declared.event.Reply.TheVariants.{Device, Moved}
+use Rattle.machine_events.specs.Cores.{is_idle}
 use Rattle.ido_base.specs.Locks.{holds_none}
 use Rattle.ido_base.specs.Words.{Word, Entry, word_of, durable_value, evicted, crashed}
 use Rattle.line_memory.specs.declared.memory.LineMemory.{LineMemory}
@@ -16,10 +16,10 @@ use Rattle.line_memory.specs.links.Queues.{RepresentsQueue}
 use Rattle.line_memory.specs.links.MemoryRepresentation.{Represents, Logs, log_in, threads_of, logs_of}
 use Rattle.line_memory.proofs.Public.{RepresentsQueue-evicted}
 use Rattle.rv64_isa.specs.declared.object.Slot.{Slot}
-use Rattle.rv64_isa.specs.declared.phase.Phase.{Phase}
-use Rattle.rv64_isa.specs.declared.phase.Phase.TheVariants.{Run, Done}
-use Rattle.rv64_isa.specs.Machine.{Hart as HartModel, World, Outcome, happens, hart_step, run_step, stepped, phase_step}
-use Rattle.rv64_isa.specs.Machine.{done_if_over, over_after, with_hart, phase_after_crash, durable_point, numbers_from, after_crash_of}
+use Rattle.machine_model.specs.declared.phase.Phase.{Phase}
+use Rattle.machine_model.specs.declared.phase.Phase.TheVariants.{Run, Done}
+use Rattle.machine_model.specs.Machine.{Hart as HartModel, World, Outcome, happens, hart_step, run_step, stepped, phase_step}
+use Rattle.machine_model.specs.Machine.{done_if_over, over_after, with_hart, phase_after_crash, durable_point, numbers_from, after_crash_of}
 use Rattle.hart_core.specs.declared.hart.Hart.{Hart}
 use Rattle.hart_core.specs.links.Harts.{RepresentsHart}
 use Rattle.hart_core.specs.StepsOnParts.{Parts, PartsStand, PartsEnd}

@@ -4,12 +4,12 @@ use Rattle.std.proofs.Common.{slice_set, Some, None, true, false, inl, inr, sym,
 use Rattle.std.proofs.lemmas.Bool.{cases_eq}
 use Rattle.std.proofs.lemmas.List.{length_push}
 use Rattle.ido_base.specs.Words.{Word, word_of}
-use Rattle.ido_base.specs.Layout.{initial_words}
+use Rattle.log_schemes.specs.Layout.{initial_words}
 use Rattle.line_memory.specs.links.MemoryRepresentation.{Represents, log_in}
 use Rattle.rv64_isa.specs.declared.object.Slot.{Slot}
-use Rattle.rv64_isa.specs.declared.phase.Phase.{Phase}
-use Rattle.rv64_isa.specs.declared.phase.Phase.TheVariants.{Run}
-use Rattle.rv64_isa.specs.Machine.{Hart as HartModel, start_of, after_crash_of, fresh_hart, phase_after_crash, durable_point, numbers_from}
+use Rattle.machine_model.specs.declared.phase.Phase.{Phase}
+use Rattle.machine_model.specs.declared.phase.Phase.TheVariants.{Run}
+use Rattle.machine_model.specs.Machine.{Hart as HartModel, start_of, after_crash_of, fresh_hart, phase_after_crash, durable_point, numbers_from}
 use Rattle.hart_core.specs.declared.hart.Hart.{Hart}
 use Rattle.hart_core.specs.links.Harts.{RepresentsHart}
 use Rattle.ido_machine.specs.Harts.{HartsStand, IsFresh, AreFresh}

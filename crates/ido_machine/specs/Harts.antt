@@ -3,9 +3,9 @@ use Rattle.std.specs.Prelude.{◌≡◌, ℕ, List, [], length, slice_get, Some,
 use Rattle.ido_base.specs.Words.{Word}
 use Rattle.line_memory.specs.links.Queues.{RepresentsQueue}
 use Rattle.rv64_isa.specs.declared.object.Slot.{Slot}
-use Rattle.rv64_isa.specs.declared.phase.Phase.TheVariants.{Run}
+use Rattle.machine_model.specs.declared.phase.Phase.TheVariants.{Run}
 use Rattle.rv64_isa.specs.Programs.{code_start}
-use Rattle.rv64_isa.specs.Machine.{Hart as HartModel}
+use Rattle.machine_model.specs.Machine.{Hart as HartModel}
 use Rattle.hart_core.specs.declared.hart.Hart.{Hart}
 use Rattle.hart_core.specs.declared.local.LocalState.{LocalState}
 use Rattle.hart_core.specs.declared.local.LocalWrite.{LocalWrite}

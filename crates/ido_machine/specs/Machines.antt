@@ -1,12 +1,12 @@
 -- What a machine in the code represents.
 use Rattle.std.specs.Prelude.{◌≡◌, ℕ, List, Option, Bool}
-use Rattle.ido_base.specs.declared.event.Reply.{Reply}
-use Rattle.ido_base.specs.declared.log.Log.{Log}
+use Rattle.machine_events.specs.declared.event.Reply.{Reply}
+use Rattle.log_schemes.specs.declared.log.Log.{Log}
 use Rattle.line_memory.specs.declared.memory.LineMemory.{LineMemory}
 use Rattle.line_memory.specs.links.MemoryRepresentation.{Represents, log_in}
 use Rattle.rv64_isa.specs.declared.object.Slot.{Slot}
-use Rattle.rv64_isa.specs.declared.phase.Phase.{Phase}
-use Rattle.rv64_isa.specs.Machine.{World, Outcome}
+use Rattle.machine_model.specs.declared.phase.Phase.{Phase}
+use Rattle.machine_model.specs.Machine.{World, Outcome}
 use Rattle.hart_core.specs.declared.hart.Hart.{Hart}
 use Rattle.resume_recovery.specs.RecoverySteps.{phases_of}
 use Rattle.ido_machine.specs.declared.machine.Machine.{Machine}

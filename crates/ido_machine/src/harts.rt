@@ -2,15 +2,15 @@
 ghost use Rattle.std.specs.Prelude.{◌≡◌, ℕ, List, length, map, IfOk};
 ghost use Rattle.ido_base.specs.Words.{Word};
 ghost use Rattle.line_memory.specs.links.MemoryRepresentation.{Represents, log_in, threads_of};
-ghost use Rattle.rv64_isa.specs.Machine.{phase_after_crash, durable_point, numbers_from};
+ghost use Rattle.machine_model.specs.Machine.{phase_after_crash, durable_point, numbers_from};
 ghost use Rattle.ido_machine.specs.Harts.{AreAnew, AreFresh};
 
 use hart_core::hart::Hart;
 use hart_core::program::Program;
 use ido_base::memory::OutOfMemory;
 use line_memory::memory::LineMemory;
+use machine_model::phase::Phase;
 use resume_recovery::phase_after_crash;
-use rv64_isa::phase::Phase;
 use std::alloc::Global;
 
 /// The harts at the start, each at the first word of its code.

@@ -7,14 +7,14 @@ use crate::running::{is_idle, step_one};
 use hart_core::hart::Hart;
 use hart_core::local::{self, LocalState, LocalWrite};
 use hart_core::program::Program;
-use ido_base::event::{Event, Reply};
-use ido_base::log::Log;
 use ido_base::memory::OutOfMemory;
 use line_memory::memory::LineMemory;
 use lock_table::LockTable;
+use log_schemes::log::Log;
+use machine_events::event::{Event, Reply};
+use machine_model::object::Object;
+use machine_model::phase::Phase;
 use rv64_isa::instr::Instr;
-use rv64_isa::object::Object;
-use rv64_isa::phase::Phase;
 use std::alloc::Global;
 
 /// A machine that runs an object, one event at a time.
@@ -37,16 +37,17 @@ pub struct Machine {
 impl Machine {
     ghost use Rattle.std.specs.Prelude.{◌≡◌, ◌⊎◌, ℕ, ◌+◌, ◌*◌, ◌/◌, ◌^◌, ◌<◌, ◌≤◌, List, [], length, not};
     ghost use Rattle.std.specs.Prelude.{true, slice_get, Some, None, IfOk, IfSome, IfNone, IsTrue, ◌↔◌};
-    ghost use Rattle.ido_base.specs.declared.event.Event.TheVariants.{Step, Evict, Crash, Start};
+    ghost use Rattle.machine_events.specs.declared.event.Event.TheVariants.{Step, Evict, Crash, Start};
     ghost use Rattle.ido_base.specs.Words.{word_at, last_position, live_value, durable_value};
-    ghost use Rattle.ido_base.specs.Layout.{line_count, log_words};
+    ghost use Rattle.log_schemes.specs.Layout.{line_count, log_words};
     ghost use Rattle.ido_base.specs.Locks.{holds_none};
-    ghost use Rattle.ido_base.specs.Cores.{is_idle};
+    ghost use Rattle.machine_events.specs.Cores.{is_idle};
     ghost use Rattle.rv64_isa.specs.declared.object.Slot.TheVariants.{Row};
-    ghost use Rattle.rv64_isa.specs.Programs.{fetched, program_of};
-    ghost use Rattle.rv64_isa.specs.Machine.{Hart as HartModel, World, IsValidAt, IsValidEvent, can_start};
-    ghost use Rattle.rv64_isa.specs.Machine.{happens, reply_to, with_hart, machine_start, machine_from};
-    ghost use Rattle.rv64_isa.specs.declared.phase.Phase.TheVariants.{Run};
+    ghost use Rattle.rv64_isa.specs.Programs.{fetched};
+    ghost use Rattle.machine_model.specs.Objects.{program_of};
+    ghost use Rattle.machine_model.specs.Machine.{Hart as HartModel, World, IsValidAt, IsValidEvent, can_start};
+    ghost use Rattle.machine_model.specs.Machine.{happens, reply_to, with_hart, machine_start, machine_from};
+    ghost use Rattle.machine_model.specs.declared.phase.Phase.TheVariants.{Run};
     ghost use Rattle.hart_core.specs.LocalSteps.{local_step, placed_code, after_write};
     ghost use Rattle.hart_core.specs.Objects.{IsWithinLimits};
     ghost use Rattle.ido_machine.specs.Machines.{program_in, log_by, events_of, RepresentsMachine, IsAfter};

@@ -1,10 +1,10 @@
 //! The step of a hart: of one that executes instructions, or in recovery.
 ghost use Rattle.std.specs.Prelude.{◌≡◌, ◌&&◌, ◌+◌, ◌^◌, ◌<◌, ◌≤◌, ℕ, not, length, slice_get, Some};
-ghost use Rattle.ido_base.specs.declared.event.Event.TheVariants.{Step};
-ghost use Rattle.ido_base.specs.Cores.{is_idle};
+ghost use Rattle.machine_events.specs.declared.event.Event.TheVariants.{Step};
+ghost use Rattle.machine_events.specs.Cores.{is_idle};
 ghost use Rattle.ido_base.specs.Locks.{holds_none};
 ghost use Rattle.line_memory.specs.links.MemoryRepresentation.{Represents, log_in, threads_of, logs_of, stores_of};
-ghost use Rattle.rv64_isa.specs.Machine.{Hart as HartModel, World, happens, reply_to, run_step};
+ghost use Rattle.machine_model.specs.Machine.{Hart as HartModel, World, happens, reply_to, run_step};
 ghost use Rattle.resume_recovery.specs.RecoverySteps.{phases_of};
 ghost use Rattle.hart_core.specs.StepsOnParts.{Parts, PartsStand, PartsEnd};
 ghost use Rattle.ido_machine.specs.Machines.{MachineState, RepresentsMachineState, StateEnds};
@@ -12,11 +12,11 @@ ghost use Rattle.ido_machine.specs.Machines.{MachineState, RepresentsMachineStat
 use hart_core::hart::Hart;
 use hart_core::program::Program;
 use hart_core::step::step;
-use ido_base::event::Reply;
 use line_memory::memory::LineMemory;
 use lock_table::LockTable;
+use machine_events::event::Reply;
+use machine_model::phase::Phase;
 use resume_recovery::phase_step;
-use rv64_isa::phase::Phase;
 
 /// The machine is in recovery, and the hart holds a lock.
 fn may_end(recovering: bool, number: u32, locks: &LockTable) -> bool

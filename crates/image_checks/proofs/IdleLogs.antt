@@ -3,14 +3,15 @@ use Rattle.std.proofs.Common.{◌≡◌, ℕ, zero, suc, ◌-◌, ◌/◌, ◌�
 use Rattle.std.specs.Prelude.{Vec, slice_index, sum_by}
 use Rattle.std.specs.Global.{Global}
 use Rattle.ido_base.specs.declared.limits.TheConstants.{MOST_STEPS}
-use Rattle.ido_base.specs.declared.log.Log.{Log}
-use Rattle.ido_base.specs.Layout.{logs_base, point_at}
+use Rattle.log_schemes.specs.declared.log.Log.{Log}
+use Rattle.ido_base.specs.Layout.{logs_base}
+use Rattle.log_schemes.specs.Layout.{point_at}
 use Rattle.ido_base.specs.Locks.{has_lock}
 use Rattle.c_tree.specs.Flats.{Flat}
 use Rattle.c_tree.specs.Source.{start}
 use Rattle.source_machine.specs.Lives.{runs_lives}
-use Rattle.memory_layout.specs.declared.point.Point.TheVariants.{Idle}
-use Rattle.memory_layout.specs.Points.{point_of}
+use Rattle.log_schemes.specs.declared.point.Point.TheVariants.{Idle}
+use Rattle.log_schemes.specs.Points.{point_of}
 use Rattle.flat_compile.specs.declared.resumes.Resume.{Resume}
 use Rattle.run_scripts.specs.Runs.{runs_of}
 use Rattle.crash_images.specs.Contents.{word_bytes}

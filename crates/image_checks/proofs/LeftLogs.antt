@@ -8,13 +8,14 @@ use Rattle.std.proofs.lemmas.Bool.{and_parts, cases_Bool, cases_lt, cond-true, c
 use Rattle.std.proofs.lemmas.List.{get_or-map, get_or_past, length-map}
 use Rattle.std.proofs.lemmas.List.Elements.{Contains-append_right, Contains-get_or}
 use Rattle.std.proofs.lemmas.Option.{same_Some, slice_get_within, slice_get-get_or}
-use Rattle.rv64_isa.specs.Machine.{durable_point}
-use Rattle.rv64_isa.proofs.Public.{log_stays}
-use Rattle.ido_base.specs.declared.log.Log.{Log}
-use Rattle.ido_base.specs.declared.log.Log.TheVariants.{V1}
-use Rattle.ido_base.specs.declared.event.Event.TheVariants.{Crash}
+use Rattle.machine_model.specs.Machine.{durable_point}
+use Rattle.machine_model.proofs.Public.{log_stays}
+use Rattle.log_schemes.specs.declared.log.Log.{Log}
+use Rattle.log_schemes.specs.declared.log.Log.TheVariants.{V1}
+use Rattle.machine_events.specs.declared.event.Event.TheVariants.{Crash}
 use Rattle.ido_base.specs.declared.location.Location.{Location}
-use Rattle.ido_base.specs.Layout.{variables_base, logs_base, word_number, slot_at, variable_at}
+use Rattle.ido_base.specs.Layout.{variables_base, logs_base, word_number, variable_at}
+use Rattle.log_schemes.specs.Layout.{slot_at}
 use Rattle.ido_base.specs.Locks.{has_lock}
 use Rattle.ido_base.specs.Words.{Word, word_of, word_at, durable_value}
 use Rattle.ido_ints.specs.declared.kinds.Kind.{Kind}
@@ -34,12 +35,12 @@ use Rattle.c_tree.specs.Values.{lock_number}
 use Rattle.c_tree.specs.WellFormed.{shape_of}
 use Rattle.c_ranges.specs.RunInvariants.{IsReferringThread, IsStoreInRange, IsThreadOf, RefersSo}
 use Rattle.c_ranges.proofs.Public.{zip_at}
-use Rattle.memory_layout.specs.declared.point.Point.{Point}
-use Rattle.memory_layout.specs.declared.point.Point.TheVariants.{Idle, At}
-use Rattle.memory_layout.specs.Points.{point_of}
+use Rattle.log_schemes.specs.declared.point.Point.{Point}
+use Rattle.log_schemes.specs.declared.point.Point.TheVariants.{Idle, At}
+use Rattle.log_schemes.specs.Points.{point_of}
 use Rattle.memory_layout.specs.Roles.{pending_address, pending_value}
 use Rattle.rv64_isa.specs.Rows.{read}
-use Rattle.rv64_isa.specs.Machine.{World, after_event, bank_of, durable_at, resume_of}
+use Rattle.machine_model.specs.Machine.{World, after_event, bank_of, durable_at, resume_of}
 use Rattle.flow_graph.specs.Actions.{FlowState, seen_by}
 use Rattle.flow_graph.specs.HeldKeys.{names_in as names_in_keys}
 use Rattle.flow_graph.specs.IdempotentCuts.{stores}

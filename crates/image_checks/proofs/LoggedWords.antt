@@ -4,17 +4,18 @@ use Rattle.std.specs.Prelude.{◌==◌}
 use Rattle.std.specs.List.{Contains}
 use Rattle.std.proofs.lemmas.Bool.{cases_Bool, cond-false, cond-true, eqb-false, eqb-true, eq-eqb, ne_eqb}
 use Rattle.std.proofs.lemmas.List.Elements.{Contains-append_left}
-use Rattle.ido_base.specs.declared.log.Log.{Log}
-use Rattle.ido_base.specs.declared.log.Log.TheVariants.{V1, V2}
-use Rattle.ido_base.specs.Layout.{logs_base, point_at, slot_at}
+use Rattle.log_schemes.specs.declared.log.Log.{Log}
+use Rattle.log_schemes.specs.declared.log.Log.TheVariants.{V1, V2}
+use Rattle.ido_base.specs.Layout.{logs_base}
+use Rattle.log_schemes.specs.Layout.{point_at, slot_at}
 use Rattle.ido_base.specs.Locks.{locks_in, mask_with}
 use Rattle.ido_base.specs.Words.{Word}
 use Rattle.c_tree.specs.Exprs.{LockName}
 use Rattle.boundary_code.specs.Boundaries.{kept_locks, listed_from, slots_kept}
-use Rattle.memory_layout.specs.declared.point.Point.{Point}
-use Rattle.memory_layout.specs.declared.point.Point.TheVariants.{At, Idle}
-use Rattle.memory_layout.specs.Points.{point_of}
-use Rattle.rv64_isa.specs.Machine.{bank_of, durable_at, durable_point, numbers_from, record_of, recorded}
+use Rattle.log_schemes.specs.declared.point.Point.{Point}
+use Rattle.log_schemes.specs.declared.point.Point.TheVariants.{At, Idle}
+use Rattle.log_schemes.specs.Points.{point_of}
+use Rattle.machine_model.specs.Machine.{bank_of, durable_at, durable_point, numbers_from, record_of, recorded}
 use Rattle.log_states.specs.Logs.{AreLoggable}
 use Rattle.log_states.proofs.Public.{contains_cases, contains_first, contains_later, contains_none}
 use Rattle.flat_compile.specs.declared.resumes.Resume.{Resume}

@@ -6,16 +6,16 @@ use Rattle.std.proofs.lemmas.Bool.{cases_lt, true≢false}
 use Rattle.std.proofs.lemmas.List.{drop_all, length-map}
 use Rattle.std.proofs.lemmas.Option.{get_or_from_slice_get, slice_get-get_or, slice_get_within}
 use Rattle.ido_base.specs.declared.limits.TheConstants.{MOST_LOCKS}
-use Rattle.ido_base.specs.declared.log.Log.{Log}
-use Rattle.ido_base.specs.declared.log.Log.TheVariants.{V1, V2}
+use Rattle.log_schemes.specs.declared.log.Log.{Log}
+use Rattle.log_schemes.specs.declared.log.Log.TheVariants.{V1, V2}
 use Rattle.ido_base.specs.Locks.{has_lock, mask_with}
 use Rattle.ido_base.proofs.Public.{none_high}
 use Rattle.c_tree.specs.Exprs.{LockName}
 use Rattle.c_tree.specs.Flats.{Flat}
 use Rattle.c_tree.specs.Values.{lock_number}
 use Rattle.c_tree.specs.WellFormed.{IsWellFormed}
-use Rattle.memory_layout.specs.declared.point.Point.{Point}
-use Rattle.rv64_isa.specs.Machine.{numbers_from}
+use Rattle.log_schemes.specs.declared.point.Point.{Point}
+use Rattle.machine_model.specs.Machine.{numbers_from}
 use Rattle.flat_compile.specs.declared.resumes.Resume.{Resume}
 use Rattle.image_checks.specs.Checks.{IsResumableLog, idle, kinds_of_thread, names_of_thread, resumed}
 use Rattle.image_checks.specs.Logs.{AreFrom, AreOnce, HoldsLock, KeepsLocks, Lists, Logs, locals_by, locks_at_point, locks_by, names_at, slot_in, slot_locks}

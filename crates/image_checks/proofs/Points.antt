@@ -6,14 +6,14 @@ use Rattle.std.specs.Global.{Global}
 use Rattle.std.proofs.lemmas.Bool.{cond_both}
 use Rattle.std.proofs.lemmas.List.{get_or-map}
 use Rattle.c_tree.specs.Flats.{Flat}
-use Rattle.memory_layout.specs.declared.point.Point.TheVariants.{At}
+use Rattle.log_schemes.specs.declared.point.Point.TheVariants.{At}
 use Rattle.flat_compile.specs.declared.resumes.Resume.{Resume}
 use Rattle.image_checks.specs.declared.error.ImageError.{ImageError}
 use Rattle.flat_compile.specs.ResumePlaces.{resumes_at}
 use Rattle.image_checks.specs.Logs.{Logs, point_in}
-use Rattle.ido_base.specs.Layout.{log_words}
-use Rattle.ido_base.specs.declared.log.Log.{Log}
-use Rattle.ido_base.specs.declared.log.Log.TheVariants.{V1, V2}
+use Rattle.log_schemes.specs.Layout.{log_words}
+use Rattle.log_schemes.specs.declared.log.Log.{Log}
+use Rattle.log_schemes.specs.declared.log.Log.TheVariants.{V1, V2}
 use Rattle.image_checks.specs.ResumeSlots.{AllHaveRoom, TablesHaveRoom}
 use Rattle.image_checks.specs.links.Errors.{IsFaultOrMemory}
 use Rattle.image_checks.specs.Checks.{resume_at, IsRight, IsBankFault, IsResumableLog, IsLogFault, resumed, of_bank}

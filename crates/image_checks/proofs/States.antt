@@ -2,7 +2,7 @@
 use Rattle.std.proofs.Common.{◌≡◌, inl, inr, ℕ, List, map, Err, Ok, length, subst, sym}
 use Rattle.std.specs.Prelude.{Vec}
 use Rattle.std.specs.Global.{Global}
-use Rattle.ido_base.specs.declared.log.Log.{Log}
+use Rattle.log_schemes.specs.declared.log.Log.{Log}
 use Rattle.c_tree.specs.Flats.{Flat}
 use Rattle.c_tree.specs.Source.{start}
 use Rattle.flat_compile.specs.declared.resumes.Resume.{Resume}

@@ -8,11 +8,11 @@ use Rattle.std.proofs.lemmas.List.{get_or_default, get_or_past, length-map}
 use Rattle.std.proofs.lemmas.List.Elements.{Contains-get_or}
 use Rattle.std.proofs.lemmas.Option.{none-some, same_Some, slice_get-get_or}
 use Rattle.memory_layout.specs.declared.roles.TheConstants.{LOCALS}
-use Rattle.ido_base.specs.declared.log.Log.{Log}
-use Rattle.ido_base.specs.declared.log.Log.TheVariants.{V1, V2}
+use Rattle.log_schemes.specs.declared.log.Log.{Log}
+use Rattle.log_schemes.specs.declared.log.Log.TheVariants.{V1, V2}
 use Rattle.ido_ints.specs.declared.kinds.Kind.{Kind}
 use Rattle.boundary_code.specs.Boundaries.{HaveRoom}
-use Rattle.memory_layout.specs.declared.log.TheConstants.{MOST_LISTED}
+use Rattle.log_schemes.specs.declared.addresses.TheConstants.{MOST_LISTED}
 use Rattle.c_tree.specs.Flats as f
 use Rattle.c_tree.specs.Values.{lock_number}
 use Rattle.thread_code.specs.Plans.{Plan, Thread, IsPlan, IsThread, IsNodeOf, home_of_colour, held_names_before, locks_before, locks_held, names_in, set_before}

@@ -4,8 +4,8 @@ use Rattle.std.specs.Prelude.{List, [], ◌∷◌, ◌++◌, length, map, find, 
 use Rattle.std.specs.Global.{Global}
 use Rattle.ido_base.specs.declared.location.Location.{Location}
 use Rattle.ido_base.specs.Layout.{variable_at}
-use Rattle.ido_base.specs.declared.log.Log.{Log}
-use Rattle.ido_base.specs.declared.log.Log.TheVariants.{V1, V2}
+use Rattle.log_schemes.specs.declared.log.Log.{Log}
+use Rattle.log_schemes.specs.declared.log.Log.TheVariants.{V1, V2}
 use Rattle.ido_ints.specs.declared.kinds.Kind.{Kind}
 use Rattle.ido_ints.specs.Kinds.{Holds}
 use Rattle.ido_ints.specs.Reduction.{register_of}
@@ -20,7 +20,7 @@ use Rattle.c_tree.specs.Source.{start}
 use Rattle.flow_graph.specs.HeldKeys.{names_in}
 use Rattle.flow_graph.specs.Paths.{Naming}
 use Rattle.memory_layout.specs.declared.roles.TheConstants.{PENDING_ADDRESS, PENDING_VALUE}
-use Rattle.memory_layout.specs.declared.point.Point.TheVariants.{Idle, At}
+use Rattle.log_schemes.specs.declared.point.Point.TheVariants.{Idle, At}
 use Rattle.flat_compile.specs.declared.resumes.LiveLocal.{LiveLocal}
 use Rattle.flat_compile.specs.declared.resumes.Resume.{Resume}
 use Rattle.flat_compile.specs.ResumePlaces.{resumes_at}

@@ -2,9 +2,10 @@
 use Rattle.std.specs.Option.{option_to_list}
 use Rattle.std.specs.Prelude.{◌≡◌, ◌==◌, ℕ, ◌+◌, ◌-◌, ◌/◌, ℤ, pos, true, Option, Some, None}
 use Rattle.std.specs.Prelude.{List, [], ◌∷◌, length, map, find, flat_map, slice_get, slice_index, take}
-use Rattle.ido_base.specs.declared.log.Log.{Log}
-use Rattle.ido_base.specs.declared.log.Log.TheVariants.{V1, V2}
-use Rattle.ido_base.specs.Layout.{logs_base, point_at, slot_at}
+use Rattle.log_schemes.specs.declared.log.Log.{Log}
+use Rattle.log_schemes.specs.declared.log.Log.TheVariants.{V1, V2}
+use Rattle.ido_base.specs.Layout.{logs_base}
+use Rattle.log_schemes.specs.Layout.{point_at, slot_at}
 use Rattle.ido_base.specs.Locks.{has_lock, locks_in, mask_with}
 use Rattle.ido_ints.specs.Reduction.{reduced}
 use Rattle.c_tree.specs.Exprs.{LockName}
@@ -12,11 +13,11 @@ use Rattle.c_tree.specs.LockDiscipline.{numbers_below}
 use Rattle.c_tree.specs.Values.{lock_number}
 use Rattle.flat_compile.specs.declared.resumes.LiveLocal.{LiveLocal}
 use Rattle.flat_compile.specs.declared.resumes.Resume.{Resume}
-use Rattle.memory_layout.specs.declared.log.TheConstants.{COUNT_SLOT, FIRST_LOCK_SLOT, MASK_SLOT, MOST_LISTED}
-use Rattle.memory_layout.specs.declared.point.Point.{Point}
-use Rattle.memory_layout.specs.declared.point.Point.TheVariants.{Idle, At}
-use Rattle.memory_layout.specs.Points.{point_of}
-use Rattle.rv64_isa.specs.Machine.{numbers_from}
+use Rattle.log_schemes.specs.declared.addresses.TheConstants.{COUNT_SLOT, FIRST_LOCK_SLOT, MASK_SLOT, MOST_LISTED}
+use Rattle.log_schemes.specs.declared.point.Point.{Point}
+use Rattle.log_schemes.specs.declared.point.Point.TheVariants.{Idle, At}
+use Rattle.log_schemes.specs.Points.{point_of}
+use Rattle.machine_model.specs.Machine.{numbers_from}
 use Rattle.crash_images.specs.Contents.{word_bytes}
 
 -- the words of all logs, and how they log

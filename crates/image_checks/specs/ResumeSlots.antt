@@ -2,7 +2,7 @@
 use Rattle.std.specs.Prelude.{◌≡◌, ◌<◌, ℕ, List, All, Some, Vec, slice_get}
 use Rattle.std.specs.Global.{Global}
 use Rattle.boundary_code.specs.Boundaries.{HaveRoom}
-use Rattle.ido_base.specs.declared.log.Log.{Log}
+use Rattle.log_schemes.specs.declared.log.Log.{Log}
 use Rattle.ido_ints.specs.declared.kinds.Kind.{Kind}
 use Rattle.c_tree.specs.Flats.{Flat}
 use Rattle.image_checks.specs.declared.limits.TheConstants.{BANK_SLOTS}

@@ -1,11 +1,11 @@
 -- The image file that a crash leaves of a run.
 use Rattle.std.specs.Prelude.{ℕ, List, map, take, drop}
-use Rattle.ido_base.specs.declared.event.Event.{Event}
+use Rattle.machine_events.specs.declared.event.Event.{Event}
 use Rattle.compiler_correctness.specs.Images as left
 use Rattle.compiler_correctness.specs.Images.{file_of, image_of, variable_words}
 use Rattle.compiler_correctness.specs.Translations.{Translation}
 use Rattle.crash_images.specs.Contents.{Contents, State, contents}
-use Rattle.rv64_isa.specs.Schedule.{all_lives}
+use Rattle.machine_model.specs.Schedule.{all_lives}
 use Rattle.run_scripts.specs.Runs.{runs_of}
 use Rattle.crash_images.specs.ImageEncoder.{spelling}
 use Rattle.crash_images.specs.declared.version.ImageVersion.TheVariants.{Third}

@@ -1,7 +1,7 @@
 -- What is answered to all that stands after a source.
 use Rattle.std.specs.Prelude.{◌≡◌, List, map, Result, Ok, Err, Vec, ℕ}
 use Rattle.std.specs.Global.{Global}
-use Rattle.ido_base.specs.declared.log.Log.{Log}
+use Rattle.log_schemes.specs.declared.log.Log.{Log}
 use Rattle.c_tree.specs.Flats.{Flat}
 use Rattle.flat_compile.specs.declared.resumes.Resume.{Resume}
 use Rattle.image_checks.specs.declared.error.ImageError.{ImageError}

@@ -1,8 +1,8 @@
 //! What the bank of a log says of its thread.
 ghost use Rattle.std.specs.Prelude.{◌≡◌, ◌==◌, ◌↔◌, ◌+◌, ◌*◌, ◌<◌, ◌≤◌, ◌^◌, ℕ, length, find, slice_index, IfOk, IsTrue, true, false};
 ghost use Rattle.std.specs.Option.{option_copied};
-ghost use Rattle.ido_base.specs.declared.log.Log.TheVariants.{V1, V2};
-ghost use Rattle.ido_base.specs.Layout.{log_words};
+ghost use Rattle.log_schemes.specs.declared.log.Log.TheVariants.{V1, V2};
+ghost use Rattle.log_schemes.specs.Layout.{log_words};
 ghost use Rattle.ido_base.specs.Locks.{mask_with};
 ghost use Rattle.c_tree.specs.Flats.{flat_of, thread_of};
 ghost use Rattle.c_tree.specs.LockNames as locks;
@@ -19,9 +19,9 @@ use c_tree::expr::LockRef;
 use c_tree::flat::{Flat, Thread};
 use c_tree::lock_names::lock_names;
 use flat_compile::resumes::LiveLocal;
-use ido_base::log::Log;
 use ido_base::memory::OutOfMemory;
-use memory_layout::log::{COUNT_SLOT, MASK_SLOT, MOST_LISTED};
+use log_schemes::addresses::{COUNT_SLOT, MASK_SLOT, MOST_LISTED};
+use log_schemes::log::Log;
 use std::alloc::Global;
 
 // ---- Its thread

@@ -1,5 +1,5 @@
 //! Sizes of what logs hold.
-use memory_layout::log::{BANK_LINES, LINE_SLOTS};
+use log_schemes::addresses::{BANK_LINES, LINE_SLOTS};
 
 /// Slots of a bank.
 pub const BANK_SLOTS: u8 = BANK_LINES * LINE_SLOTS;

@@ -1,17 +1,17 @@
 //! The durable words of logs.
 ghost use Rattle.std.specs.Prelude.{◌≡◌, ◌==◌, ◌+◌, ◌-◌, ◌*◌, ◌/◌, ◌<◌, ◌≤◌, length};
-ghost use Rattle.ido_base.specs.declared.log.Log.TheVariants.{V1, V2};
-ghost use Rattle.ido_base.specs.Layout.{log_words};
+ghost use Rattle.log_schemes.specs.declared.log.Log.TheVariants.{V1, V2};
+ghost use Rattle.log_schemes.specs.Layout.{log_words};
 ghost use Rattle.ido_base.specs.Locks.{has_lock, locks_in};
 ghost use Rattle.crash_images.specs.Contents.{word_bytes};
 ghost use Rattle.image_checks.specs.Logs.{log_locks, logged, logs_of, point_in, slot_in, slot_locks};
 
 use crate::limits::{BANK_SLOTS, MASK_BITS};
-use ido_base::log::Log;
-use memory_layout::log::{
+use log_schemes::addresses::{
     COUNT_SLOT, FIRST_LOCK_SLOT, LOGS_BASE, MASK_SLOT, MOST_LISTED, SLOT_BYTES, point_at, slot_at,
 };
-use memory_layout::point::{Point, read_point};
+use log_schemes::log::Log;
+use log_schemes::point::{Point, read_point};
 
 /// The word at an address of the logs.
 fn logged(logs: &[u64], address: u64) -> u64

@@ -1,6 +1,6 @@
 //! Mutexes that two threads hold.
 ghost use Rattle.std.specs.Prelude.{◌≡◌, ◌↔◌, ◌*◌, ◌<◌, ◌≤◌, ◌^◌, ℕ, length, IsTrue, MatchOption, MatchResult};
-ghost use Rattle.ido_base.specs.Layout.{log_words};
+ghost use Rattle.log_schemes.specs.Layout.{log_words};
 ghost use Rattle.image_checks.specs.Logs.{HoldsLock, logs_of};
 ghost use Rattle.image_checks.specs.Checks.{AreFirstTwo, IsUnshared, IsMutexFault};
 ghost use Rattle.image_checks.specs.links.Holders.{IsNextHolder, HasNoHolder};
@@ -8,7 +8,7 @@ ghost use Rattle.image_checks.specs.links.Holders.{IsNextHolder, HasNoHolder};
 use crate::error::ImageError;
 use crate::logs::holds;
 use ido_base::limits::MOST_LOCKS;
-use ido_base::log::Log;
+use log_schemes::log::Log;
 
 /// The least of so many threads, from one on, that holds the mutex.
 fn holder_from(log: Log, logs: &[u64], threads: u32, from: u32, lock: u32) -> Option<u32>

@@ -4,7 +4,7 @@ ghost use Rattle.ido_base.specs.declared.limits.TheConstants.{MOST_THREADS};
 ghost use Rattle.c_tree.specs.Flats.{flat_of};
 ghost use Rattle.c_tree.specs.WellFormed.{IsWellFormed, shape_of};
 ghost use Rattle.memory_layout.specs.Variables.{HaveRoom};
-ghost use Rattle.ido_base.specs.Layout.{log_words};
+ghost use Rattle.log_schemes.specs.Layout.{log_words};
 ghost use Rattle.crash_images.specs.links.Views.{state_of};
 ghost use Rattle.image_checks.specs.ResumeSlots.{TablesHaveKinds, TablesHaveRoom, TablesHaveSlots};
 ghost use Rattle.image_checks.specs.StateAnswers.{IsStateAnswer};
@@ -16,7 +16,7 @@ use crate::threads::check_logs;
 use c_tree::flat::Flat;
 use crash_images::state::State;
 use flat_compile::resumes::Resume;
-use ido_base::log::Log;
+use log_schemes::log::Log;
 use std::alloc::Global;
 use variable_words::places::addresses;
 

@@ -9,9 +9,10 @@ use Rattle.std.proofs.lemmas.List.Elements.{Contains-get_or}
 use Rattle.std.proofs.lemmas.Option.{none-some, same_Some, slice_get_within}
 use Rattle.ido_base.specs.declared.limits.TheConstants.{MOST_ELEMENTS}
 use Rattle.ido_base.specs.declared.location.Location.{Location}
-use Rattle.ido_base.specs.declared.log.Log.{Log}
-use Rattle.ido_base.specs.declared.log.Log.TheVariants.{V1, V2}
-use Rattle.ido_base.specs.Layout.{log_words, logs_base, word_count}
+use Rattle.log_schemes.specs.declared.log.Log.{Log}
+use Rattle.log_schemes.specs.declared.log.Log.TheVariants.{V1, V2}
+use Rattle.ido_base.specs.Layout.{logs_base}
+use Rattle.log_schemes.specs.Layout.{log_words, word_count}
 use Rattle.ido_base.specs.Locks.{has_lock}
 use Rattle.ido_base.specs.Words.{Word, word_of}
 use Rattle.ido_ints.specs.declared.kinds.Kind.{Kind}
@@ -30,12 +31,12 @@ use Rattle.c_tree.specs.References.{IsFlatThreadReferring, IsLocalReferring, var
 use Rattle.c_tree.specs.Values.{lock_number}
 use Rattle.c_ranges.specs.Laws.{IsNullOrReference}
 use Rattle.c_ranges.proofs.Public.{zip_found}
-use Rattle.memory_layout.specs.declared.point.Point.TheVariants.{Idle, At}
-use Rattle.memory_layout.specs.Points.{point_of}
+use Rattle.log_schemes.specs.declared.point.Point.TheVariants.{Idle, At}
+use Rattle.log_schemes.specs.Points.{point_of}
 use Rattle.memory_layout.specs.Roles.{pending_address, pending_value}
-use Rattle.rv64_isa.specs.Executables.{Executable}
+use Rattle.machine_model.specs.Executables.{Executable}
 use Rattle.rv64_isa.specs.Programs.{slot_of}
-use Rattle.rv64_isa.specs.Machine.{durable_at, durable_point, bank_of, resume_of, recorded, record_of}
+use Rattle.machine_model.specs.Machine.{durable_at, durable_point, bank_of, resume_of, recorded, record_of}
 use Rattle.rv64_isa.specs.Rows.{read}
 use Rattle.variable_words.proofs.Public.{well_formed_placed}
 use Rattle.flow_graph.specs.HeldKeys as keys

@@ -4,10 +4,11 @@ use Rattle.std.specs.Prelude.{slice_get, Contains, ℤ, slice_index_or, pos, is_
 use Rattle.std.specs.List.{AllZip}
 use Rattle.std.proofs.lemmas.List.{length-map}
 use Rattle.std.proofs.lemmas.Option.{none-some, same_Some, slice_get_within}
-use Rattle.ido_base.specs.declared.log.Log.{Log}
-use Rattle.ido_base.specs.declared.event.Event.TheVariants.{Crash}
+use Rattle.log_schemes.specs.declared.log.Log.{Log}
+use Rattle.machine_events.specs.declared.event.Event.TheVariants.{Crash}
 use Rattle.ido_base.specs.declared.location.Location.{Location}
-use Rattle.ido_base.specs.Layout.{variable_at, word_count}
+use Rattle.ido_base.specs.Layout.{variable_at}
+use Rattle.log_schemes.specs.Layout.{word_count}
 use Rattle.ido_base.specs.Locks.{has_lock}
 use Rattle.ido_base.specs.Words.{Word, word_of, durable_value}
 use Rattle.ido_ints.specs.declared.kinds.Kind.{Kind}
@@ -29,8 +30,8 @@ use Rattle.source_machine.specs.Discipline.{HoldsNames, KeepsLeft}
 use Rattle.source_machine.proofs.Public.{held_is_given}
 use Rattle.memory_layout.specs.Roles.{pending_address, pending_value}
 use Rattle.rv64_isa.specs.Rows.{read}
-use Rattle.rv64_isa.specs.Machine.{World, after_event, happens, after_crash_of, resume_of, record_of}
-use Rattle.rv64_isa.proofs.Public.{log_stays}
+use Rattle.machine_model.specs.Machine.{World, after_event, happens, after_crash_of, resume_of, record_of}
+use Rattle.machine_model.proofs.Public.{log_stays}
 use Rattle.flow_graph.specs.Actions.{FlowState, seen_by}
 use Rattle.flow_graph.specs.IdempotentCuts.{stores}
 use Rattle.flow_graph.specs.Liveness.{NodeAt, IsLive}

@@ -7,10 +7,11 @@ use Rattle.std.proofs.Math.Bridge.{le_prop}
 use Rattle.std.proofs.lemmas.Bool.{cases_Bool, cases_lt, cond-true, cond-false, eq-eqb, or_left, true≢false}
 use Rattle.std.proofs.lemmas.List.{length-replicate}
 use Rattle.std.proofs.lemmas.Option.{none-some, same_Some, slice_get_within}
-use Rattle.ido_base.specs.declared.log.Log.{Log}
-use Rattle.ido_base.specs.declared.event.Event.TheVariants.{Crash}
+use Rattle.log_schemes.specs.declared.log.Log.{Log}
+use Rattle.machine_events.specs.declared.event.Event.TheVariants.{Crash}
 use Rattle.ido_base.specs.declared.location.Shape.{Shape}
-use Rattle.ido_base.specs.Layout.{byte_number, variable_at, word_count}
+use Rattle.ido_base.specs.Layout.{byte_number, variable_at}
+use Rattle.log_schemes.specs.Layout.{word_count}
 use Rattle.ido_base.specs.Locks.{has_lock, holds_none}
 use Rattle.ido_base.specs.Words.{Word, word_of, durable_value}
 use Rattle.ido_ints.specs.declared.kinds.Kind.{Kind}
@@ -31,7 +32,7 @@ use Rattle.source_machine.specs.ElementLocks.{element_lock}
 use Rattle.source_machine.specs.Discipline.{HoldsNames, StateKeeps, ThreadKeeps}
 use Rattle.source_machine.proofs.Public.{held_found, held_there}
 use Rattle.rv64_isa.specs.declared.object.Slot.{Slot}
-use Rattle.rv64_isa.specs.Machine.{Hart, World, after_crash_of, after_event, durable_point, fresh_hart, happens, numbers_from, phase_after_crash, record_of}
+use Rattle.machine_model.specs.Machine.{Hart, World, after_crash_of, after_event, durable_point, fresh_hart, happens, numbers_from, phase_after_crash, record_of}
 use Rattle.boundary_code.specs.Boundaries.{is_empty}
 use Rattle.flow_graph.specs.Actions.{FlowState, GraphThread}
 use Rattle.flow_graph.specs.Lockstep.{GraphThreadMatches, Matches, IsOwnNode}

@@ -2,11 +2,12 @@
 use Rattle.std.proofs.Common.{◌≡◌, refl, ℕ, zero, suc, ◌+◌, ◌*◌, ◌<◌, List, [], ◌∷◌, map, sym, ◌∙◌, subst, arith}
 use Rattle.std.specs.Prelude.{slice_index, ◌^◌, ◌/◌, ◌==◌, ◌≢◌}
 use Rattle.std.proofs.lemmas.Bool.{cond-true, eq-eqb}
-use Rattle.ido_base.specs.declared.log.Log.{Log}
+use Rattle.log_schemes.specs.declared.log.Log.{Log}
 use Rattle.ido_base.specs.Words.{Word, word_of, word_at, durable_value}
-use Rattle.ido_base.specs.Layout.{log_words, word_number, point_at, slot_at}
+use Rattle.ido_base.specs.Layout.{word_number}
+use Rattle.log_schemes.specs.Layout.{log_words, point_at, slot_at}
 use Rattle.rv64_isa.specs.Rows.{read}
-use Rattle.rv64_isa.specs.Machine.{bank_of, durable_point, record_of, recorded, resumed_registers}
+use Rattle.machine_model.specs.Machine.{bank_of, durable_point, record_of, recorded, resumed_registers}
 use Rattle.log_states.specs.Logs.{nothing_recorded, slot_index, IsInBank, IsKeepable, IsDurable, IsRecorded, HasLog, log_word}
 use Rattle.log_states.proofs.Public.{contains_none, scheme, slot_in_log, some_words}
 

@@ -6,7 +6,8 @@ use Rattle.std.specs.List.{AllZip}
 use Rattle.std.specs.Option.{option_map}
 use Rattle.std.proofs.lemmas.Bool.{true≢false}
 use Rattle.std.proofs.lemmas.Option.{none-some, same_Some, slice_get-map}
-use Rattle.ido_base.specs.Layout.{point_at, variable_at, word_number}
+use Rattle.ido_base.specs.Layout.{variable_at, word_number}
+use Rattle.log_schemes.specs.Layout.{point_at}
 use Rattle.ido_base.specs.Locks.{holds_none}
 use Rattle.ido_base.specs.Words.{Word, word_of}
 use Rattle.ido_ints.specs.declared.kinds.Kind.{Kind}
@@ -31,7 +32,7 @@ use Rattle.source_machine.specs.ElementLocks.{element_lock}
 use Rattle.source_machine.proofs.Public.{keep_opened_all}
 use Rattle.memory_layout.specs.Roles.{pending_address, pending_value}
 use Rattle.rv64_isa.specs.Rows.{read}
-use Rattle.rv64_isa.specs.Machine.{bank_of, durable_point, recorded, record_of, resumed_registers}
+use Rattle.machine_model.specs.Machine.{bank_of, durable_point, recorded, record_of, resumed_registers}
 use Rattle.boundary_code.specs.Boundaries.{is_empty, kept_locks}
 use Rattle.variable_words.proofs.Public.{address_is, element_whole, well_formed_placed}
 use Rattle.flow_graph.specs.Actions.{FlowState, GraphThread, Seen, graph_thread_start, seen_by}

@@ -1,9 +1,9 @@
 -- A machine that begins with words that have the shape runs on.
 use Rattle.std.proofs.Common.{◌≡◌, ◌∙◌, ap, ap₂, subst}
-use Rattle.ido_base.specs.declared.log.Log.{Log}
+use Rattle.log_schemes.specs.declared.log.Log.{Log}
 use Rattle.c_tree.specs.Flats.{Flat}
-use Rattle.rv64_isa.specs.Executables.{Executable}
-use Rattle.rv64_isa.specs.declared.object.Object.{Object}
+use Rattle.machine_model.specs.Executables.{Executable}
+use Rattle.machine_model.specs.declared.object.Object.{Object}
 use Rattle.rv64_isa.specs.declared.object.Marks.{Marks}
 use Rattle.flow_graph.specs.declared.cuts.Cuts.{Cuts}
 use Rattle.flow_graph.specs.IdempotentCuts.{Boundaries}

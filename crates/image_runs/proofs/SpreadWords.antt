@@ -9,7 +9,7 @@ use Rattle.std.proofs.lemmas.List.{length-append, length-replicate, get_or-appen
 use Rattle.ido_base.specs.Words.{word_of, word_at, durable_value}
 use Rattle.ido_base.specs.Layout.{variables_base, logs_base, word_number, spread_words}
 use Rattle.file_fields.specs.Numbers.{IsWord}
-use Rattle.rv64_isa.specs.Machine.{durable_at}
+use Rattle.machine_model.specs.Machine.{durable_at}
 use Rattle.log_states.specs.Logs as logs
 use Rattle.image_checks.specs.Logs.{logged}
 

@@ -1,11 +1,11 @@
 -- Which words have the shape, what they are, and what a machine does that begins with them.
 use Rattle.std.specs.Prelude.{ℕ, List, length, Vec}
 use Rattle.std.specs.Global.{Global}
-use Rattle.ido_base.specs.declared.event.Event.{Event}
+use Rattle.machine_events.specs.declared.event.Event.{Event}
 use Rattle.c_tree.specs.Flats.{Flat}
-use Rattle.rv64_isa.specs.declared.object.Object.{Object}
+use Rattle.machine_model.specs.declared.object.Object.{Object}
 use Rattle.rv64_isa.specs.declared.object.Marks.{Marks}
-use Rattle.rv64_isa.specs.Schedule.{LifeSchedules}
+use Rattle.machine_model.specs.Schedule.{LifeSchedules}
 use Rattle.flow_graph.specs.declared.cuts.Cuts.{Cuts}
 use Rattle.region_attempts.specs.Origins.{Origin}
 use Rattle.crash_simulation.specs.RecoveredWords.{IsRecoveredFrom}

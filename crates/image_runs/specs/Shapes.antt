@@ -3,7 +3,7 @@ use Rattle.std.specs.Prelude.{◌≡◌, ◌≢◌, ℕ, ◌<◌, List, length, 
 use Rattle.std.specs.List.{AllZip}
 use Rattle.ido_base.specs.declared.location.Location.{Location}
 use Rattle.ido_base.specs.Words.{Word, word_of}
-use Rattle.ido_base.specs.Layout.{word_count}
+use Rattle.log_schemes.specs.Layout.{word_count}
 use Rattle.ido_base.specs.Locks.{has_lock}
 use Rattle.ido_ints.specs.declared.kinds.Kind.{Kind}
 use Rattle.ido_ints.specs.Kinds.{Holds}
@@ -13,7 +13,7 @@ use Rattle.c_tree.specs.Ranges.{elements_of}
 use Rattle.c_tree.specs.References.{variable_refers}
 use Rattle.c_ranges.specs.Laws.{IsNullOrReference}
 use Rattle.rv64_isa.specs.Rows.{read}
-use Rattle.rv64_isa.specs.Machine.{durable_point, resume_of, record_of, resumed_registers}
+use Rattle.machine_model.specs.Machine.{durable_point, resume_of, record_of, resumed_registers}
 use Rattle.memory_layout.specs.Roles.{pending_address, pending_value}
 use Rattle.flow_graph.specs.Nodes.{Node}
 use Rattle.flow_graph.specs.Liveness.{NodeAt, IsLive}

@@ -1,7 +1,7 @@
 -- The image with which a machine begins for what stands after a source in a file.
 use Rattle.std.specs.Prelude.{ℕ, List, length, ◌++◌}
 use Rattle.ido_base.specs.Layout.{spread_words}
-use Rattle.rv64_isa.specs.Schedule.{LifeSchedules}
+use Rattle.machine_model.specs.Schedule.{LifeSchedules}
 use Rattle.compiler_correctness.specs.Images.{Image}
 use Rattle.crash_images.specs.Contents.{State}
 

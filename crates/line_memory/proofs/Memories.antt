@@ -3,7 +3,7 @@ use Rattle.std.proofs.Common.{◌≡◌, ℕ, zero, suc, ◌+◌, ◌/◌, ◌%�
 use Rattle.std.proofs.Common.{true, ◌==◌, refl, sym, ◌∙◌, ap, subst, inl, inr, arith, get_or-set_other}
 use Rattle.std.proofs.lemmas.Bool.{cases_eq, eq-eqb}
 use Rattle.ido_base.specs.Words.{Word, word_of, word_at, live_value, with_value, with_part, stored, crashed}
-use Rattle.ido_base.specs.Layout.{word_count}
+use Rattle.log_schemes.specs.Layout.{word_count}
 use Rattle.line_memory.specs.declared.cell.Cell.{Cell}
 use Rattle.line_memory.specs.declared.changes.Changes.{Changes}
 use Rattle.line_memory.specs.ChangedWords.{HasChanged}

@@ -4,9 +4,10 @@ use Rattle.std.proofs.Common.{◌∙◌, ap, subst, inl, inr, arith, add-one, ap
 use Rattle.std.proofs.lemmas.Bool.{cases_eq}
 use Rattle.std.proofs.lemmas.List.{get_or-map, length-map, map-append, take_all, drop-drop, get_or_past}
 use Rattle.std.specs.Int.{w64, from_le_bytes}
-use Rattle.ido_base.specs.declared.log.Log.{Log}
+use Rattle.log_schemes.specs.declared.log.Log.{Log}
 use Rattle.ido_base.specs.Words.{word_of}
-use Rattle.ido_base.specs.Layout.{words_of_bytes, word_count, variable_lines, log_words, initial_words, spread_words}
+use Rattle.ido_base.specs.Layout.{words_of_bytes, variable_lines, spread_words}
+use Rattle.log_schemes.specs.Layout.{word_count, log_words, initial_words}
 use Rattle.line_memory.specs.declared.memory.LineMemory.{LineMemory}
 use Rattle.line_memory.specs.links.MemoryRepresentation.{Represents}
 use Rattle.line_memory.specs.declared.cell.Cell.{Cell}

@@ -5,7 +5,7 @@ ghost use Rattle.ido_base.specs.Layout.{variables_base, byte_number as byte_numb
 ghost use Rattle.line_memory.specs.Access.{is_width};
 
 use ido_base::limits::{LINE_BYTES, VARIABLE_LINES};
-use memory_layout::log::LOGS_BASE;
+use log_schemes::addresses::LOGS_BASE;
 use memory_layout::variables::VARIABLES_BASE;
 
 /// Bytes of the variables' lines.

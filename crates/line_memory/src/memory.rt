@@ -1,6 +1,6 @@
 //! The memory of a machine.
 ghost use Rattle.std.specs.Prelude.{◌≡◌, ◌≤◌, vec_len};
-ghost use Rattle.ido_base.specs.Layout.{word_count};
+ghost use Rattle.log_schemes.specs.Layout.{word_count};
 ghost use Rattle.ido_base.specs.declared.limits.TheConstants.{MOST_THREADS, MOST_VARIABLE_BYTES};
 
 use crate::bytes::{self, VARIABLE_BYTES};
@@ -9,9 +9,9 @@ use crate::changes::Changes;
 use crate::queue::Queue;
 use crate::{lines, making};
 use ido_base::limits::{LINE_BYTES, VARIABLE_WORDS};
-use ido_base::log::Log;
 use ido_base::memory::OutOfMemory;
-use memory_layout::log::{self, LOGS_BASE};
+use log_schemes::addresses::{self, LOGS_BASE};
+use log_schemes::log::Log;
 use memory_layout::variables::VARIABLES_BASE;
 use std::alloc::Global;
 
@@ -31,8 +31,10 @@ impl LineMemory {
     ghost use Rattle.std.specs.Prelude.{◌≡◌, ℕ, ◌+◌, ◌*◌, ◌/◌, ◌%◌, ◌^◌, ◌<◌, ◌≤◌, List, [], ◌∷◌, ◌++◌, length, map, IfOk, IsTrue};
     ghost use Rattle.ido_base.specs.Words.{Word, Entry, word_of, word_at, last_position, live_value};
     ghost use Rattle.ido_base.specs.Words.{durable_value, loaded, stored, entry_of, drained, evicted, crashed};
-    ghost use Rattle.ido_base.specs.Layout.{in_range as is_in_range, aligned, byte_number, line_bytes, line_count};
-    ghost use Rattle.ido_base.specs.Layout.{log_words, initial_words, spread_words, word_number, point_at, slot_at, bank_slots};
+    ghost use Rattle.ido_base.specs.Layout.{aligned, byte_number, line_bytes};
+    ghost use Rattle.log_schemes.specs.Layout.{in_range as is_in_range, line_count};
+    ghost use Rattle.ido_base.specs.Layout.{spread_words, word_number};
+    ghost use Rattle.log_schemes.specs.Layout.{log_words, initial_words, point_at, slot_at, bank_slots};
     ghost use Rattle.line_memory.specs.Access.{is_width};
     ghost use Rattle.line_memory.specs.links.Queues.{queue_length, RepresentsQueue};
     ghost use Rattle.line_memory.specs.declared.queue.Queue.{Queue};

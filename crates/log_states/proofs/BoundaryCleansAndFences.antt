@@ -1,13 +1,14 @@
 -- A boundary's own cleans and fences.
 use Rattle.std.proofs.Common.{◌≡◌, inl, inr, ℕ, ◌+◌, ◌*◌, ◌/◌, ◌%◌, ◌<◌, ◌≤◌, List, [], ◌∷◌, ◌++◌, length, refl, ap, arith, sym, ◌∙◌, subst}
 use Rattle.std.specs.List.{Contains}
-use Rattle.ido_base.specs.declared.log.Log.{Log}
+use Rattle.log_schemes.specs.declared.log.Log.{Log}
 use Rattle.ido_base.specs.Words.{Word, Entry, word_at, last_position, live_value, entry_of}
 use Rattle.ido_base.specs.Growth.{AreEntries, PersistsThrough}
-use Rattle.ido_base.specs.Layout.{point_at, slot_at, byte_number, word_number}
+use Rattle.ido_base.specs.Layout.{byte_number, word_number}
+use Rattle.log_schemes.specs.Layout.{point_at, slot_at}
 use Rattle.ido_base.proofs.Public.{reach_stays, cleans_reach, changed_refl, clean_entry, entries_append}
 use Rattle.rv64_isa.specs.Rows.{Cleans, Fences}
-use Rattle.rv64_isa.specs.Machine.{bank_of}
+use Rattle.machine_model.specs.Machine.{bank_of}
 use Rattle.log_states.specs.Logs.{Record, slots_of, value_of, bank_word, point_in, slot_in, IsWord, IsDurable, HasBank, IsRecorded}
 use Rattle.log_states.specs.Stages.{LogConfig, IsComing, ToStore, ToClean, Queued, IsWriting, IsPointed, Stage, Writing, Written, Pointed, PointQueued, Over}
 use Rattle.log_states.specs.Stages.{LogIs}

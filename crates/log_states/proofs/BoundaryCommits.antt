@@ -7,14 +7,15 @@ use Rattle.std.proofs.lemmas.Bool.{lt-leb, le-leb}
 use Rattle.std.proofs.lemmas.Bool.{cond_both, cases_lt, eqb-true, eq-eqb, ne_eqb, and_parts, and_left, or_right, or_parts, not-true, cond-true, cond-false}
 use Rattle.std.proofs.lemmas.Bool.{true≢false}
 use Rattle.std.proofs.lemmas.List.{get_or-map, get_or_past, length-map}
-use Rattle.ido_base.specs.declared.log.Log.{Log}
+use Rattle.log_schemes.specs.declared.log.Log.{Log}
 use Rattle.ido_base.specs.Words.{Word, word_of, word_at, last_position, durable_value, after_crash, crashed}
 use Rattle.ido_base.specs.Growth.{IsPersisted}
-use Rattle.ido_base.specs.Layout.{point_at, word_number}
+use Rattle.ido_base.specs.Layout.{word_number}
+use Rattle.log_schemes.specs.Layout.{point_at}
 use Rattle.ido_base.proofs.Public.{same_last}
 use Rattle.rv64_isa.specs.Rows.{Effect, Stores, Cleans, Fences}
-use Rattle.rv64_isa.specs.Machine.{bank_of, durable_point}
-use Rattle.rv64_isa.specs.Schedule.{is_point_store}
+use Rattle.machine_model.specs.Machine.{bank_of, durable_point}
+use Rattle.machine_model.specs.Schedule.{is_point_store}
 use Rattle.boundary_code.specs.Boundaries.{Boundary, bank_effects, commit_effects, boundary_effects, is_empty, other_side}
 use Rattle.log_states.specs.Logs.{Record, value_of, bank_word, log_word, point_in, slot_in, IsWord, HasLog, IsDurable, HasBank, IsRecorded}
 use Rattle.log_states.specs.Stages.{LogConfig, Stored, Cleaned, Fenced, Drained, Elsewhere, stores_of, cleans_of, IsPointed, Stage, Writing, Written, Pointed}

@@ -4,13 +4,14 @@ use Rattle.std.proofs.Common.{None, zero, suc}
 use Rattle.std.specs.Prelude.{slice_get, nat_le, nat_lt, ◌&&◌}
 use Rattle.std.specs.List.{Contains}
 use Rattle.std.proofs.lemmas.Bool.{cond_both, cond-true, and_from, or_right, le-leb, eq-eqb}
-use Rattle.ido_base.specs.declared.log.Log.{Log}
-use Rattle.ido_base.specs.declared.event.Reply.TheVariants.{Moved, Drained}
+use Rattle.log_schemes.specs.declared.log.Log.{Log}
+use Rattle.machine_events.specs.declared.event.Reply.TheVariants.{Moved, Drained}
 use Rattle.ido_base.specs.Words.{Entry}
-use Rattle.ido_base.specs.Layout.{variables_base, logs_base, log_lines, log_words, in_range, aligned, log_of, point_at, slot_at}
+use Rattle.ido_base.specs.Layout.{variables_base, logs_base, aligned}
+use Rattle.log_schemes.specs.Layout.{log_lines, log_words, in_range, log_of, point_at, slot_at}
 use Rattle.boundary_code.specs.Boundaries.{bank_lines}
 use Rattle.rv64_isa.specs.Rows.{Effect, Stores, Cleans, Fences, next}
-use Rattle.rv64_isa.specs.Machine.{Hart, World, Outcome, access, applied, fenced, drain_one, stepped, happens, bank_of, hart_step, phase_step}
+use Rattle.machine_model.specs.Machine.{Hart, World, Outcome, access, applied, fenced, drain_one, stepped, happens, bank_of, hart_step, phase_step}
 use Rattle.log_states.specs.Logs.{Record, value_of, slot_index, IsInBank}
 use Rattle.log_states.specs.Stages.{IsWriting, Stage, Writing, Written, Pointed, PointQueued, Over}
 use Rattle.log_states.specs.Machines.{is_boundary_effect, IsLogEffect, StoresWord, CleansLine, PassesFence, BoundariesStayIn, LogEffectsGo}

@@ -2,10 +2,10 @@
 use Rattle.std.proofs.Common.{◌≡◌, ◌≢◌, ℕ, ◌+◌, ◌-◌, ◌*◌, ◌%◌, ◌^◌, ◌<◌, List, [], ◌∷◌, ◌++◌, map, refl, ap, arith, sym, ◌∙◌, Bool, true, false, eqb}
 use Rattle.std.specs.List.{Contains}
 use Rattle.std.proofs.lemmas.Bool.{cond_both, cond-true, cond-false, ne_eqb}
-use Rattle.ido_base.specs.declared.log.Log.{Log}
-use Rattle.ido_base.specs.Layout.{slot_at}
+use Rattle.log_schemes.specs.declared.log.Log.{Log}
+use Rattle.log_schemes.specs.Layout.{slot_at}
 use Rattle.rv64_isa.specs.Rows.{Effect, Stores, Cleans, read}
-use Rattle.rv64_isa.specs.Machine.{bank_of}
+use Rattle.machine_model.specs.Machine.{bank_of}
 use Rattle.boundary_code.specs.Boundaries.{Boundary, is_empty, kept_locks, slots_kept, bank_lines}
 use Rattle.boundary_code.specs.Boundaries.{lines_in_use, bank_effects, commit_effects, boundary_effects, other_side}
 use Rattle.boundary_code.proofs.Public.{not_empty, some_there}

@@ -3,13 +3,14 @@ use Rattle.std.proofs.Common.{◌≡◌, ◌≢◌, inl, inr, ℕ, ◌/◌, ◌%
 use Rattle.std.proofs.lemmas.Bool.{cases_eq}
 use Rattle.std.proofs.lemmas.List.{append-nil}
 use Rattle.std.specs.List.{Contains}
-use Rattle.ido_base.specs.declared.log.Log.{Log}
+use Rattle.log_schemes.specs.declared.log.Log.{Log}
 use Rattle.ido_base.specs.Words.{Word, Entry, word_at, last_position, live_value, with_value, stored}
 use Rattle.ido_base.specs.Growth.{AreChanged, PersistsThrough}
-use Rattle.ido_base.specs.Layout.{log_words, point_at, slot_at, byte_number, word_number}
+use Rattle.ido_base.specs.Layout.{byte_number, word_number}
+use Rattle.log_schemes.specs.Layout.{log_words, point_at, slot_at}
 use Rattle.ido_base.proofs.Public.{reach_stays, stores_change}
 use Rattle.rv64_isa.specs.Rows.{Stores, Cleans, Fences}
-use Rattle.rv64_isa.specs.Machine.{bank_of}
+use Rattle.machine_model.specs.Machine.{bank_of}
 use Rattle.boundary_code.specs.Boundaries.{commit_effects}
 use Rattle.log_states.specs.Logs.{Record, slots_of, value_of, log_word, bank_word, point_in, slot_in, IsWord, HasLog, IsDurable, HasBank, IsRecorded}
 use Rattle.log_states.specs.Stages.{LogConfig, stores_of, cleans_of, IsComing, ToStore, ToClean, Queued}

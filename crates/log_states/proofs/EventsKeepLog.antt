@@ -1,6 +1,6 @@
 -- Every event keeps a log on its way, and between boundaries its record.
 use Rattle.std.proofs.Common.{◌≡◌, ℕ, List, [], ◌∷◌, ◌++◌, length, refl, sym, ◌∙◌, subst}
-use Rattle.ido_base.specs.declared.log.Log.{Log}
+use Rattle.log_schemes.specs.declared.log.Log.{Log}
 use Rattle.ido_base.specs.Words.{Word, Entry, word_at, drained}
 use Rattle.ido_base.specs.Growth.{AreChanged, ArePersisted, IsPersisted, AreEntries, PersistsThrough}
 use Rattle.ido_base.specs.Layout.{byte_number}

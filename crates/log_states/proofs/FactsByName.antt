@@ -1,9 +1,9 @@
 -- The facts of a log, by name.
 use Rattle.std.proofs.Common.{◌≡◌, ◌≢◌, inl, inr, ℕ, ◌/◌, List, [], ◌∷◌, ap, arith, sym, ◌∙◌}
 use Rattle.std.specs.List.{Contains}
-use Rattle.ido_base.specs.declared.log.Log.{Log}
+use Rattle.log_schemes.specs.declared.log.Log.{Log}
 use Rattle.ido_base.specs.Layout.{byte_number, word_number}
-use Rattle.rv64_isa.specs.Machine.{bank_of}
+use Rattle.machine_model.specs.Machine.{bank_of}
 use Rattle.log_states.specs.Logs.{Record, slots_of, bank_word, point_in, HasBank, IsRecorded}
 use Rattle.log_states.specs.Stages.{LogConfig, IsWriting, Stage, Writing, Written, Pointed, PointQueued, Over, left_by_crash}
 use Rattle.log_states.specs.LogFacts.{PointsFindBank, IsNamed, BankKept, LocksAreLeft, LogFacts}

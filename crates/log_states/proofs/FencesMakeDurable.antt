@@ -3,10 +3,11 @@ use Rattle.std.proofs.Common.{◌≡◌, ◌⊎◌, inl, inr, ℕ, ◌+◌, ◌*
 use Rattle.std.proofs.lemmas.List.{append-nil}
 use Rattle.std.proofs.lemmas.Bool.{cond_both}
 use Rattle.boundary_code.specs.Boundaries.{Boundary}
-use Rattle.ido_base.specs.declared.log.Log.{Log}
+use Rattle.log_schemes.specs.declared.log.Log.{Log}
 use Rattle.ido_base.specs.Words.{Word, Entry, word_at, entry_of}
 use Rattle.ido_base.specs.Growth.{AreChanged, PersistsThrough}
-use Rattle.ido_base.specs.Layout.{byte_number, slot_at}
+use Rattle.ido_base.specs.Layout.{byte_number}
+use Rattle.log_schemes.specs.Layout.{slot_at}
 use Rattle.ido_base.proofs.Public.{reach_stays, stores_change, changed_refl, durable_later, higher_all}
 use Rattle.rv64_isa.specs.Rows.{Effect, Stores, Cleans, read}
 use Rattle.boundary_code.specs.Boundaries.{kept_locks, slots_kept, lines_in_use, bank_effects, commit_effects, is_empty, other_side}

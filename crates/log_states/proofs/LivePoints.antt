@@ -1,9 +1,9 @@
 -- The live point of a log on its way from the one record to the other.
 use Rattle.std.proofs.Common.{◌≡◌, ◌⊎◌, inl, inr, ℕ, ap, sym, ◌∙◌, false}
 use Rattle.std.proofs.lemmas.Bool.{cases_Bool, cond-true}
-use Rattle.ido_base.specs.declared.log.Log.{Log}
-use Rattle.ido_base.specs.Layout.{point_at}
-use Rattle.rv64_isa.specs.Machine.{durable_point, live_at}
+use Rattle.log_schemes.specs.declared.log.Log.{Log}
+use Rattle.log_schemes.specs.Layout.{point_at}
+use Rattle.machine_model.specs.Machine.{durable_point, live_at}
 use Rattle.log_states.specs.Logs.{Record, point_in, IsRecorded}
 use Rattle.log_states.specs.Stages.{LogConfig, LogIs, Stage, Writing, Written, Pointed, PointQueued, Over, is_committed}
 use Rattle.log_states.specs.Laws.{LivePointIs}

@@ -5,18 +5,18 @@ use Rattle.std.specs.Prelude.{slice_get, ◌==◌, if◌then◌else◌}
 use Rattle.std.proofs.lemmas.Bool.{cond_both, true≢false}
 use Rattle.log_states.specs.Laws.{recorded_by, IsAtRecord}
 use Rattle.boundary_code.specs.Boundaries.{boundary_effects}
-use Rattle.ido_base.specs.declared.log.Log.{Log}
-use Rattle.ido_base.specs.declared.event.Event.TheVariants.{Step, Evict, Crash}
-use Rattle.ido_base.specs.declared.event.Reply.TheVariants.{Moved}
+use Rattle.log_schemes.specs.declared.log.Log.{Log}
+use Rattle.machine_events.specs.declared.event.Event.TheVariants.{Step, Evict, Crash}
+use Rattle.machine_events.specs.declared.event.Reply.TheVariants.{Moved}
 use Rattle.ido_base.specs.Words.{Word, crashed}
 use Rattle.ido_base.specs.Growth.{AreEntries}
 use Rattle.rv64_isa.specs.declared.object.Slot.{Slot}
-use Rattle.rv64_isa.specs.declared.phase.Phase.TheVariants.{Run}
+use Rattle.machine_model.specs.declared.phase.Phase.TheVariants.{Run}
 use Rattle.rv64_isa.specs.Rows.{Effect, Continues, Loads, Stores, Cleans, Fences, Calls, next}
-use Rattle.rv64_isa.specs.Machine.{Hart, World, applied, hart_step, phase_step, stepped, happens, after_event, reply_to, numbers_from}
-use Rattle.rv64_isa.specs.Machine.{fresh_hart, phase_after_crash, durable_point, after_crash_of, start_of}
-use Rattle.rv64_isa.specs.Frames.{IsWellFormedWorld}
-use Rattle.rv64_isa.specs.Schedule.{has_moved, effect_at}
+use Rattle.machine_model.specs.Machine.{Hart, World, applied, hart_step, phase_step, stepped, happens, after_event, reply_to, numbers_from}
+use Rattle.machine_model.specs.Machine.{fresh_hart, phase_after_crash, durable_point, after_crash_of, start_of}
+use Rattle.machine_model.specs.Frames.{IsWellFormedWorld}
+use Rattle.machine_model.specs.Schedule.{has_moved, effect_at}
 use Rattle.operator_code.specs.StraightLineCode.{seen}
 use Rattle.log_states.specs.Logs.{Record, nothing_recorded, IsRecord, HasLog, IsRecorded}
 use Rattle.log_states.specs.Stages.{LogConfig, LogIs, is_committed, left_by_crash}

@@ -3,26 +3,27 @@ use Rattle.std.proofs.Common.{◌≡◌, ◌≢◌, inl, inr, ℕ, ◌/◌, ◌<
 use Rattle.std.specs.Prelude.{slice_get, nat_lt, ◌==◌, if◌then◌else◌}
 use Rattle.std.proofs.lemmas.Bool.{cases_eq, cond_both, eqb-true, true≢false}
 use Rattle.std.proofs.lemmas.List.{append-nil}
-use Rattle.ido_base.specs.declared.log.Log.{Log}
-use Rattle.ido_base.specs.declared.event.Event.TheVariants.{Step}
-use Rattle.ido_base.specs.declared.event.Reply.TheVariants.{Moved, Waits}
+use Rattle.log_schemes.specs.declared.log.Log.{Log}
+use Rattle.machine_events.specs.declared.event.Event.TheVariants.{Step}
+use Rattle.machine_events.specs.declared.event.Reply.TheVariants.{Moved, Waits}
 use Rattle.ido_base.specs.Words.{Word, Entry, word_of, word_at, entry_of, stored, drained, after_crash, durable_value}
 use Rattle.ido_base.specs.Growth.{AreChanged, AreEntries, IsPersisted}
-use Rattle.ido_base.specs.Layout.{log_words, in_range, aligned, byte_number}
+use Rattle.ido_base.specs.Layout.{aligned, byte_number}
+use Rattle.log_schemes.specs.Layout.{log_words, in_range}
 use Rattle.ido_base.specs.Locks.{is_held_by, least_held, least_missing}
 use Rattle.ido_base.proofs.Public.{changed_refl, changed_by_persisted, evictions_raise, write_backs_raise, persisted_refl}
 use Rattle.rv64_isa.specs.declared.object.Slot.{Slot}
 use Rattle.rv64_isa.specs.declared.object.Slot.TheVariants.{Row, NoRow}
-use Rattle.rv64_isa.specs.declared.phase.Phase.{Phase}
-use Rattle.rv64_isa.specs.declared.phase.Phase.TheVariants.{Take, Wait, Resume, Run, Done, Ended}
+use Rattle.machine_model.specs.declared.phase.Phase.{Phase}
+use Rattle.machine_model.specs.declared.phase.Phase.TheVariants.{Take, Wait, Resume, Run, Done, Ended}
 use Rattle.rv64_isa.specs.Rows.{Effect, Continues, Loads, Stores, Cleans, Fences, Calls, row, read, next}
 use Rattle.rv64_isa.specs.Programs.{fetched}
-use Rattle.rv64_isa.specs.Machine.{Hart, World, Outcome, moved, with_hart, with_holder, drain_one, access, fenced, acquired, released, ended, called, applied}
-use Rattle.rv64_isa.specs.Machine.{executed, hart_step, taken, waited, taking_from, record_of, over_after, done_if_over, run_step, phase_step, stepped}
-use Rattle.rv64_isa.specs.Machine.{happens, after_event, after_crash_of}
-use Rattle.rv64_isa.specs.Frames.{IsWellFormedWorld}
-use Rattle.rv64_isa.specs.Schedule.{has_moved, is_running, effect_at}
-use Rattle.rv64_isa.proofs.Public.{get-set_same, get-set_other, steps_touch, step_goes}
+use Rattle.machine_model.specs.Machine.{Hart, World, Outcome, moved, with_hart, with_holder, drain_one, access, fenced, acquired, released, ended, called, applied}
+use Rattle.machine_model.specs.Machine.{executed, hart_step, taken, waited, taking_from, record_of, over_after, done_if_over, run_step, phase_step, stepped}
+use Rattle.machine_model.specs.Machine.{happens, after_event, after_crash_of}
+use Rattle.machine_model.specs.Frames.{IsWellFormedWorld}
+use Rattle.machine_model.specs.Schedule.{has_moved, is_running, effect_at}
+use Rattle.machine_model.proofs.Public.{get-set_same, get-set_other, steps_touch, step_goes}
 use Rattle.log_states.specs.Logs.{log_word, IsUnstored}
 use Rattle.log_states.specs.Stages.{Moves, Stored, Cleaned, Fenced, Drained, Elsewhere}
 use Rattle.log_states.specs.Machines.{config_of, MovesTo, is_boundary_effect, IsElsewhere, OwnStepsMove, StepsMove, EvictionsMove, CrashesCrash}

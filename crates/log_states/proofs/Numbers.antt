@@ -2,8 +2,9 @@
 use Rattle.std.proofs.Common.{◌≡◌, ◌≢◌, inl, inr, ℕ, suc, ◌+◌, ◌-◌, ◌*◌, ◌/◌, ◌%◌, ◌<◌, ◌≤◌, ap, arith, cond, sym, ◌∙◌, subst}
 use Rattle.std.specs.List.{Contains}
 use Rattle.std.proofs.lemmas.Bool.{cases_lt, le-ltb, lt-ltb}
-use Rattle.ido_base.specs.declared.log.Log.{Log}
-use Rattle.ido_base.specs.Layout.{log_lines, log_words, variables_base, logs_base, byte_number, word_number, word_count, log_of, point_at, slot_at}
+use Rattle.log_schemes.specs.declared.log.Log.{Log}
+use Rattle.ido_base.specs.Layout.{variables_base, logs_base, byte_number, word_number}
+use Rattle.log_schemes.specs.Layout.{log_lines, log_words, word_count, log_of, point_at, slot_at}
 use Rattle.boundary_code.specs.Boundaries.{bank_lines}
 use Rattle.log_states.specs.Logs.{log_word, bank_word, slot_index, IsInBank}
 use Rattle.log_states.proofs.Schemes.{scheme}

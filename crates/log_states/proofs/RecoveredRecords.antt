@@ -5,12 +5,13 @@ use Rattle.std.specs.List.{Contains}
 use Rattle.std.proofs.lemmas.Bool.{cases_eq, cases_lt, cond_both, cond-true, cond-false, eq-eqb, ne_eqb}
 use Rattle.std.proofs.lemmas.List.{get_or-map, get_or-append_right, get_or_past, length-map}
 use Rattle.std.proofs.lemmas.List.Elements.{Contains-append_left, Contains-append_right}
-use Rattle.ido_base.specs.declared.log.Log.{Log}
+use Rattle.log_schemes.specs.declared.log.Log.{Log}
 use Rattle.ido_base.specs.Words.{Word, word_of, word_at, crashed}
-use Rattle.ido_base.specs.Layout.{log_lines, log_words, slot_at, point_at, word_number, initial_words, words_of_bytes}
+use Rattle.ido_base.specs.Layout.{word_number, words_of_bytes}
+use Rattle.log_schemes.specs.Layout.{log_lines, log_words, slot_at, point_at, initial_words}
 use Rattle.rv64_isa.specs.Rows.{read}
-use Rattle.rv64_isa.specs.Machine.{durable_point, durable_at, bank_of, record_of, recorded, resumed_registers, start_of}
-use Rattle.rv64_isa.proofs.Public.{starts_simulate}
+use Rattle.machine_model.specs.Machine.{durable_point, durable_at, bank_of, record_of, recorded, resumed_registers, start_of}
+use Rattle.machine_model.proofs.Public.{starts_simulate}
 use Rattle.boundary_code.specs.Boundaries.{kept_locks, slots_kept, IsOnSide}
 use Rattle.boundary_code.proofs.Public.{fresh_on_side}
 use Rattle.log_states.specs.Logs.{Record, value_of, IsRecord, log_word, IsWord, IsDurable}

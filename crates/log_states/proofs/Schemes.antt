@@ -4,14 +4,14 @@ use Rattle.std.proofs.Common.{get_or, add-zero, cond, true, length, take}
 use Rattle.std.specs.Prelude.{nat_le, not, ◌==◌, ◌&&◌, ◌||◌}
 use Rattle.std.specs.List.{Contains}
 use Rattle.std.proofs.lemmas.Bool.{and_parts, cond-true, cond-false, eq-eqb, eqb-true, leb-true, ne_eqb, or_cases}
-use Rattle.ido_base.specs.declared.log.Log.{Log}
-use Rattle.ido_base.specs.declared.log.Log.TheVariants.{V1, V2}
+use Rattle.log_schemes.specs.declared.log.Log.{Log}
+use Rattle.log_schemes.specs.declared.log.Log.TheVariants.{V1, V2}
 use Rattle.ido_base.specs.Words.{Word}
-use Rattle.ido_base.specs.Layout.{bank_bytes}
+use Rattle.log_schemes.specs.Layout.{bank_bytes}
 use Rattle.ido_base.specs.Locks.{locks_in, mask_with}
 use Rattle.ido_base.proofs.Public.{no_locks}
 use Rattle.rv64_isa.specs.Rows.{read}
-use Rattle.rv64_isa.specs.Machine.{bank_of, durable_point, recorded, record_of, resumed_register, resumed_registers, numbers_from}
+use Rattle.machine_model.specs.Machine.{bank_of, durable_point, recorded, record_of, resumed_register, resumed_registers, numbers_from}
 use Rattle.memory_layout.specs.Roles.{is_kept, is_local}
 use Rattle.boundary_code.specs.Boundaries.{AreOfMask, HaveRoom, IsOnSide, listed_from}
 use Rattle.log_states.specs.Logs.{nothing_recorded, kept_in, IsInBank, AreListed, HasOwnSlot, IsRecord}

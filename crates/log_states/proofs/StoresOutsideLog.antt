@@ -1,11 +1,12 @@
 -- Steps that store nothing to a thread's log.
 use Rattle.std.proofs.Common.{◌≡◌, ◌≢◌, ℕ, ◌+◌, ◌*◌, ◌/◌, List, ap, sym, ◌∙◌, subst}
 use Rattle.std.proofs.lemmas.Bool.{true≢false}
-use Rattle.ido_base.specs.Layout.{log_of, byte_number}
+use Rattle.ido_base.specs.Layout.{byte_number}
+use Rattle.log_schemes.specs.Layout.{log_of}
 use Rattle.rv64_isa.specs.declared.object.Slot.{Slot}
 use Rattle.rv64_isa.specs.Rows.{Effect, Stores}
-use Rattle.rv64_isa.specs.Machine.{Hart, World}
-use Rattle.rv64_isa.specs.Schedule.{effect_at}
+use Rattle.machine_model.specs.Machine.{Hart, World}
+use Rattle.machine_model.specs.Schedule.{effect_at}
 use Rattle.log_states.specs.Logs.{log_word}
 use Rattle.log_states.specs.Stages.{is_store}
 use Rattle.log_states.specs.Machines.{IsNext, IsLogEffect, StoresWord, CleansLine, PassesFence, StoresNothing, StoresToVariable, StoresToOtherLog}

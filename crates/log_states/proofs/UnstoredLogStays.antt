@@ -3,13 +3,14 @@ use Rattle.std.proofs.Common.{◌≡◌, ◌≢◌, ◌⊎◌, inl, inr, ℕ, �
 use Rattle.std.proofs.lemmas.Bool.{cond_both}
 use Rattle.std.proofs.lemmas.List.Elements.{Contains-append_cases}
 use Rattle.std.specs.List.{Contains}
-use Rattle.ido_base.specs.declared.log.Log.{Log}
+use Rattle.log_schemes.specs.declared.log.Log.{Log}
 use Rattle.ido_base.specs.Words.{Word, word_at, last_position}
 use Rattle.ido_base.specs.Growth.{IsPersisted, PersistsThrough}
-use Rattle.ido_base.specs.Layout.{log_words, point_at, word_number}
+use Rattle.ido_base.specs.Layout.{word_number}
+use Rattle.log_schemes.specs.Layout.{log_words, point_at}
 use Rattle.ido_base.proofs.Public.{same_last}
 use Rattle.rv64_isa.specs.Rows.{read}
-use Rattle.rv64_isa.specs.Machine.{bank_of}
+use Rattle.machine_model.specs.Machine.{bank_of}
 use Rattle.boundary_code.specs.Boundaries.{kept_locks, slots_kept}
 use Rattle.log_states.specs.Logs.{Record, slots_of, value_of, kept_in, slot_index, IsInBank, IsRecord, log_word, bank_word, point_in, slot_in, HasLog}
 use Rattle.log_states.specs.Logs.{IsUnstored, HasBank, IsRecorded}

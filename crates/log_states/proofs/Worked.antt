@@ -2,13 +2,14 @@
 -- nothing was recorded before it. A crash comes after each of its effects, with or without an eviction of the point's line.
 use Rattle.std.proofs.Common.{◌≡◌, ℕ, zero, suc, ◌+◌, ◌*◌, ◌/◌, List, [], ◌∷◌, ◌++◌, map, refl, pos, Bool, true, false, take, drop, replicate}
 use Rattle.std.specs.Prelude.{slice_set, if◌then◌else◌}
-use Rattle.ido_base.specs.declared.log.Log.TheVariants.{V1, V2}
+use Rattle.log_schemes.specs.declared.log.Log.TheVariants.{V1, V2}
 use Rattle.ido_base.specs.Words.{Word, word_of, entry_of, stored, evicted, crashed}
 use Rattle.ido_base.specs.Growth.{drained_all}
 use Rattle.ido_base.specs.Locks.{locks_in, mask_with}
-use Rattle.ido_base.specs.Layout.{byte_number, line_bytes, log_lines, variable_lines}
+use Rattle.ido_base.specs.Layout.{byte_number, line_bytes, variable_lines}
+use Rattle.log_schemes.specs.Layout.{log_lines}
 use Rattle.rv64_isa.specs.Rows.{Effect, Continues, Loads, Stores, Cleans, Fences, Calls}
-use Rattle.rv64_isa.specs.Machine.{durable_point, record_of, resume_of, resumed_register}
+use Rattle.machine_model.specs.Machine.{durable_point, record_of, resume_of, resumed_register}
 use Rattle.boundary_code.specs.Boundaries.{Boundary, boundary_effects}
 use Rattle.log_states.specs.Stages.{LogConfig, is_committed}
 use Rattle.log_states.specs.Laws.{recorded_by}

@@ -2,14 +2,15 @@
 use Rattle.std.specs.Prelude.{◌≡◌, ◌≢◌, ◌⊎◌, ℕ, ◌+◌, ◌*◌, ◌/◌, ◌%◌, ◌^◌, ◌<◌, ◌≤◌, List, [], length, replicate, ◌∷◌, true, false, not, nat_le, ◌==◌}
 use Rattle.std.specs.Prelude.{if◌then◌else◌}
 use Rattle.std.specs.List.{Contains, list_any}
-use Rattle.ido_base.specs.declared.log.Log.{Log}
+use Rattle.log_schemes.specs.declared.log.Log.{Log}
 use Rattle.ido_base.specs.Words.{Word, Entry, word_at, last_position, stored, crashed}
 use Rattle.ido_base.specs.Growth.{Stable, AreEntries, PersistsThrough}
-use Rattle.ido_base.specs.Layout.{variables_base, variable_lines, line_bytes, log_words, point_at, byte_number}
+use Rattle.ido_base.specs.Layout.{variables_base, variable_lines, line_bytes, byte_number}
+use Rattle.log_schemes.specs.Layout.{log_words, point_at}
 use Rattle.rv64_isa.specs.declared.object.Slot.{Slot}
 use Rattle.rv64_isa.specs.Rows.{Effect, Stores, read}
-use Rattle.rv64_isa.specs.Machine.{durable_point, live_at, resume_of, record_of, resumed_registers, start_of}
-use Rattle.rv64_isa.specs.Schedule.{is_point_store}
+use Rattle.machine_model.specs.Machine.{durable_point, live_at, resume_of, record_of, resumed_registers, start_of}
+use Rattle.machine_model.specs.Schedule.{is_point_store}
 use Rattle.memory_layout.specs.Roles.{is_kept}
 use Rattle.boundary_code.specs.Boundaries.{Boundary, boundary_effects, is_empty, IsOnSide, other_side, side_after}
 use Rattle.log_states.specs.Logs.{Record, nothing_recorded, side_of, IsSideOf, IsKeepable, AreLoggable, IsRecord, log_word}

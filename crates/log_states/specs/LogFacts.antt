@@ -1,10 +1,11 @@
 -- The facts of a log that recovery rests on, by name. One more is none of a log's but of regions, whatever the log: one that is run again reads nothing
 -- that an earlier attempt has overwritten (`rerun_reads_nothing_overwritten` of region_attempts).
 use Rattle.std.specs.Prelude.{◌≡◌, ◌≢◌, ◌⊎◌, ℕ, ◌/◌, List, [], ◌∷◌, ◌==◌, if◌then◌else◌}
-use Rattle.ido_base.specs.declared.log.Log.{Log}
-use Rattle.ido_base.specs.Layout.{byte_number, point_at}
+use Rattle.log_schemes.specs.declared.log.Log.{Log}
+use Rattle.ido_base.specs.Layout.{byte_number}
+use Rattle.log_schemes.specs.Layout.{point_at}
 use Rattle.rv64_isa.specs.Rows.{Effect, Stores}
-use Rattle.rv64_isa.specs.Machine.{durable_point, live_at, bank_of, record_of}
+use Rattle.machine_model.specs.Machine.{durable_point, live_at, bank_of, record_of}
 use Rattle.log_states.specs.Logs.{Record, bank_word, IsInBank, HasBank}
 use Rattle.log_states.specs.Stages.{LogConfig, LogIs, left_by_crash}
 use Rattle.log_states.specs.Laws.{PointIs, CommittedAfterFence, FencesSettle, RecordIsResumed, CrashesResume}

@@ -1,12 +1,12 @@
 -- A thread's log in a machine: how it stands at each moment, whatever happens.
 use Rattle.std.specs.Prelude.{◌≡◌, ℕ, ◌<◌, List, [], ◌++◌, length, slice_get, Some}
-use Rattle.ido_base.specs.declared.log.Log.{Log}
-use Rattle.ido_base.specs.declared.event.Event.TheVariants.{Step, Evict, Crash}
-use Rattle.ido_base.specs.declared.event.Reply.TheVariants.{Moved, Drained}
+use Rattle.log_schemes.specs.declared.log.Log.{Log}
+use Rattle.machine_events.specs.declared.event.Event.TheVariants.{Step, Evict, Crash}
+use Rattle.machine_events.specs.declared.event.Reply.TheVariants.{Moved, Drained}
 use Rattle.rv64_isa.specs.declared.object.Slot.{Slot}
 use Rattle.rv64_isa.specs.Rows.{Effect}
-use Rattle.rv64_isa.specs.Machine.{Hart, World, after_event, reply_to, start_of}
-use Rattle.rv64_isa.specs.Frames.{IsWellFormedWorld}
+use Rattle.machine_model.specs.Machine.{Hart, World, after_event, reply_to, start_of}
+use Rattle.machine_model.specs.Frames.{IsWellFormedWorld}
 use Rattle.operator_code.specs.StraightLineCode.{seen}
 use Rattle.boundary_code.specs.Boundaries.{Boundary, boundary_effects}
 use Rattle.log_states.specs.Logs.{Record, nothing_recorded}

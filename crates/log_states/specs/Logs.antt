@@ -1,13 +1,14 @@
 -- What a thread's log has recorded: the point of its last boundary, and what the point's bank keeps, but where the point is 0.
 use Rattle.std.specs.Prelude.{◌≡◌, ◌≢◌, ℕ, ◌+◌, ◌*◌, ◌/◌, ◌^◌, ◌<◌, ◌≤◌, List, [], ◌∷◌, length, slice_index, ◌==◌, if◌then◌else◌}
 use Rattle.std.specs.List.{Contains}
-use Rattle.ido_base.specs.declared.log.Log.{Log}
-use Rattle.ido_base.specs.declared.log.Log.TheVariants.{V1, V2}
+use Rattle.log_schemes.specs.declared.log.Log.{Log}
+use Rattle.log_schemes.specs.declared.log.Log.TheVariants.{V1, V2}
 use Rattle.ido_base.specs.Words.{Word, word_at, last_position, live_value}
 use Rattle.ido_base.specs.Growth.{IsPersisted}
-use Rattle.ido_base.specs.Layout.{bank_bytes, log_words, word_count, word_number, point_at, slot_at}
+use Rattle.ido_base.specs.Layout.{word_number}
+use Rattle.log_schemes.specs.Layout.{bank_bytes, log_words, word_count, point_at, slot_at}
 use Rattle.rv64_isa.specs.Rows.{read}
-use Rattle.rv64_isa.specs.Machine.{bank_of}
+use Rattle.machine_model.specs.Machine.{bank_of}
 use Rattle.memory_layout.specs.Roles.{bank_offset}
 use Rattle.boundary_code.specs.Boundaries.{AreOfMask, bank_lines, kept_locks, slots_kept}
 

@@ -1,15 +1,16 @@
 -- What the machine's events are to a thread's log.
 use Rattle.std.specs.Prelude.{◌≡◌, ◌≢◌, ◌⊎◌, ℕ, ◌+◌, ◌*◌, ◌/◌, ◌<◌, List, ◌∷◌, slice_get, Some, Bool, true, false, ◌==◌, if◌then◌else◌}
-use Rattle.ido_base.specs.declared.log.Log.{Log}
-use Rattle.ido_base.specs.declared.event.Event.TheVariants.{Step, Evict, Crash}
-use Rattle.ido_base.specs.declared.event.Reply.TheVariants.{Moved, Drained}
+use Rattle.log_schemes.specs.declared.log.Log.{Log}
+use Rattle.machine_events.specs.declared.event.Event.TheVariants.{Step, Evict, Crash}
+use Rattle.machine_events.specs.declared.event.Reply.TheVariants.{Moved, Drained}
 use Rattle.ido_base.specs.Words.{crashed}
-use Rattle.ido_base.specs.Layout.{variables_base, variable_lines, line_bytes, log_words, log_of, byte_number}
+use Rattle.ido_base.specs.Layout.{variables_base, variable_lines, line_bytes, byte_number}
+use Rattle.log_schemes.specs.Layout.{log_words, log_of}
 use Rattle.rv64_isa.specs.declared.object.Slot.{Slot}
 use Rattle.rv64_isa.specs.Rows.{Effect, Continues, Loads, Stores, Cleans, Fences, Calls}
-use Rattle.rv64_isa.specs.Machine.{Hart, World, after_event, reply_to}
-use Rattle.rv64_isa.specs.Frames.{IsWellFormedWorld}
-use Rattle.rv64_isa.specs.Schedule.{has_moved, is_running, effect_at}
+use Rattle.machine_model.specs.Machine.{Hart, World, after_event, reply_to}
+use Rattle.machine_model.specs.Frames.{IsWellFormedWorld}
+use Rattle.machine_model.specs.Schedule.{has_moved, is_running, effect_at}
 use Rattle.log_states.specs.Logs.{Record, log_word}
 use Rattle.log_states.specs.Stages.{LogConfig, Moves, LogIs, is_store}
 

@@ -2,11 +2,11 @@
 -- else that is said of a log follows from it, where a boundary writes a bank, cleans it, fences, and then does so with the point.
 use Rattle.std.specs.Prelude.{◌≡◌, ◌≢◌, ℕ, ◌+◌, ◌*◌, ◌%◌, ◌^◌, ◌<◌, List, [], true}
 use Rattle.std.specs.List.{Contains}
-use Rattle.ido_base.specs.declared.log.Log.{Log}
+use Rattle.log_schemes.specs.declared.log.Log.{Log}
 use Rattle.ido_base.specs.Words.{Word}
-use Rattle.ido_base.specs.Layout.{log_lines, log_words, log_of, slot_at}
+use Rattle.log_schemes.specs.Layout.{log_lines, log_words, log_of, slot_at}
 use Rattle.rv64_isa.specs.Rows.{read}
-use Rattle.rv64_isa.specs.Machine.{bank_of, durable_point, recorded, record_of, resumed_registers}
+use Rattle.machine_model.specs.Machine.{bank_of, durable_point, recorded, record_of, resumed_registers}
 use Rattle.memory_layout.specs.Roles.{is_kept}
 use Rattle.boundary_code.specs.Boundaries.{kept_locks, HaveRoom, IsOnSide}
 use Rattle.log_states.specs.Logs.{kept_in, slot_index, IsInBank, AreLoggable, IsKeepable}

@@ -1,12 +1,13 @@
 -- How far a boundary has come, seen from its log: a state machine over the effects that it has still to make.
 use Rattle.std.specs.Prelude.{◌≡◌, ◌≢◌, ℕ, ◌+◌, ◌*◌, ◌/◌, ◌<◌, ◌≤◌, List, [], ◌∷◌, ◌++◌, map, slice_index, Bool, true, false, not, ◌==◌, ◌&&◌, if◌then◌else◌}
 use Rattle.std.specs.List.{Contains, list_any}
-use Rattle.ido_base.specs.declared.log.Log.{Log}
+use Rattle.log_schemes.specs.declared.log.Log.{Log}
 use Rattle.ido_base.specs.Words.{Word, Entry, last_position, live_value, stored, entry_of, drained}
 use Rattle.ido_base.specs.Growth.{AreChanged, AreEntries, PersistsThrough}
-use Rattle.ido_base.specs.Layout.{line_bytes, byte_number, word_number, point_at, slot_at}
+use Rattle.ido_base.specs.Layout.{line_bytes, byte_number, word_number}
+use Rattle.log_schemes.specs.Layout.{point_at, slot_at}
 use Rattle.rv64_isa.specs.Rows.{Effect, Continues, Loads, Stores, Cleans, Fences, Calls}
-use Rattle.rv64_isa.specs.Machine.{bank_of}
+use Rattle.machine_model.specs.Machine.{bank_of}
 use Rattle.boundary_code.specs.Boundaries.{bank_lines, commit_effects}
 use Rattle.log_states.specs.Logs.{Record, slots_of, value_of, bank_word, point_in, slot_in, IsRecord, HasLog, IsUnstored, HasBank, IsRecorded}
 

@@ -3,21 +3,10 @@ use Rattle.std.proofs.Common.{◌≡◌, ℕ, List, [], ◌∷◌, refl, false}
 use Rattle.std.specs.Prelude.{filter, ℤ, pos, negsuc}
 use Rattle.ido_base.specs.declared.location.Shape.{Shape}
 use Rattle.ido_base.specs.Layout.{aligned_up, end_from}
-use Rattle.memory_layout.specs.declared.point.Point.TheVariants.{Idle, At}
 use Rattle.memory_layout.specs.declared.roles.TheConstants.{LOCALS, TEMPORARIES}
-use Rattle.memory_layout.specs.Points.{point_of}
 use Rattle.memory_layout.specs.Roles.{is_temporary, is_local, is_kept}
 use Rattle.memory_layout.specs.Variables.{are_sizes, elements_of, offset_of}
 use Rattle.memory_layout.specs.links.Bytes.{numbers_bytes, variable_bytes, bytes_from}
-
-between_sections : point_of 0 ≡ Idle
-between_sections = refl
-
-first_bank : point_of 0x1_0054 ≡ At 0x1_0054 0
-first_bank = refl
-
-second_bank : point_of 0x1_0055 ≡ At 0x1_0054 1
-second_bank = refl
 
 -- x0 to x31
 registers : List ℕ

@@ -1,4 +1,3 @@
-pub mod Points
 pub mod Roles
 pub mod Variables
 pub mod links

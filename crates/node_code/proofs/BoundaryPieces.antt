@@ -3,12 +3,12 @@ use Rattle.std.proofs.Common.{◌≡◌, ℕ, ◌+◌, ◌-◌, ◌*◌, ◌%◌
 use Rattle.std.proofs.Common.{false, ◌==◌}
 use Rattle.std.specs.Prelude.{sum_by, if◌then◌else◌, slice_set, pos, ℤ}
 use Rattle.std.specs.List.{list_any}
-use Rattle.ido_base.specs.declared.log.Log.{Log}
+use Rattle.log_schemes.specs.declared.log.Log.{Log}
 use Rattle.rv64_isa.specs.Signed.{twos_complement}
 use Rattle.std.proofs.Math.Nat.{mod-eq_of_lt}
 use Rattle.std.proofs.lemmas.List.{length-set, length-append}
 use Rattle.std.proofs.lemmas.List.Sums.{sum_by-append}
-use Rattle.ido_base.specs.Layout.{slot_at}
+use Rattle.log_schemes.specs.Layout.{slot_at}
 use Rattle.rv64_isa.specs.declared.instr.Instr.{Instr}
 use Rattle.rv64_isa.specs.declared.instr.Instr.TheVariants.{Lui, Auipc, Jal, Jalr, Branch, Load, Store, OpImmediate, ShiftImmediate}
 use Rattle.rv64_isa.specs.declared.instr.Instr.TheVariants.{ShiftImmediateWord, Op, CboClean, Fence, Ecall}

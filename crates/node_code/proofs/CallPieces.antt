@@ -6,7 +6,7 @@ use Rattle.std.specs.List.{list_any}
 use Rattle.std.proofs.Math.Nat.{mod-eq_of_lt}
 use Rattle.std.proofs.lemmas.List.{length-append, get_or-set_other}
 use Rattle.std.proofs.lemmas.List.Sums.{sum_by-append}
-use Rattle.ido_base.specs.declared.log.Log.{Log}
+use Rattle.log_schemes.specs.declared.log.Log.{Log}
 use Rattle.rv64_isa.specs.declared.instr.Instr.{Instr}
 use Rattle.rv64_isa.specs.declared.instr.Instr.TheVariants.{OpImmediate, Ecall}
 use Rattle.rv64_isa.specs.declared.instr.ImmediateOperation.TheVariants.{Addi}

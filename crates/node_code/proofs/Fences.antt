@@ -4,7 +4,7 @@ use Rattle.std.proofs.Common.{length, map, Some, refl, ap, sym, ◌∙◌, arith
 use Rattle.std.specs.Prelude.{slice_get, ◌==◌, if◌then◌else◌}
 use Rattle.std.proofs.lemmas.List.{length-append}
 use Rattle.std.proofs.lemmas.List.Sums.{sum_by-append, sum_by-cons}
-use Rattle.ido_base.specs.Layout.{slot_at}
+use Rattle.log_schemes.specs.Layout.{slot_at}
 use Rattle.rv64_isa.specs.declared.instr.Instr.{Instr}
 use Rattle.rv64_isa.specs.declared.instr.Instr.TheVariants.{Lui, Auipc, Jal, Jalr, Branch, Load, Store, OpImmediate}
 use Rattle.rv64_isa.specs.declared.instr.Instr.TheVariants.{ShiftImmediate, ShiftImmediateWord, Op, CboClean, Fence, Ecall}
@@ -30,7 +30,7 @@ use Rattle.boundary_code.proofs.Public.{fresh_on_side}
 use Rattle.node_code.specs.BoundaryCode.{IsQuiet, IsListedCodeOf, IsBoundaryCode, undivided, in_parts}
 use Rattle.node_code.proofs.ListLegs.{plain_both}
 use Rattle.rv64_isa.specs.declared.instr.StoreKind.TheVariants.{Sd}
-use Rattle.ido_base.specs.declared.log.Log.TheVariants.{V2}
+use Rattle.log_schemes.specs.declared.log.Log.TheVariants.{V2}
 use Rattle.std.specs.List.{AllByRecursion}
 
 -- ---- Items

@@ -2,7 +2,7 @@
 ghost use Rattle.std.specs.Prelude.{◌≡◌, ◌<◌, ◌≤◌, ◌++◌, IsTrue, IfOk, OnOk, pos, length};
 ghost use Rattle.std.specs.List.{list_all, AllByRecursion};
 ghost use Rattle.ido_base.specs.declared.limits.TheConstants.{MOST_THREADS};
-ghost use Rattle.ido_base.specs.declared.log.Log.TheVariants.{V1, V2};
+ghost use Rattle.log_schemes.specs.declared.log.Log.TheVariants.{V1, V2};
 ghost use Rattle.memory_layout.specs.Roles.{is_kept};
 ghost use Rattle.node_code.specs.BoundaryCode.{IsQuiet};
 ghost use Rattle.node_code.specs.Pieces.{Appends, IsBoundaryOf, codes_of};
@@ -12,8 +12,8 @@ ghost use Rattle.node_code.specs.links.BoundaryCode.{IsCodeFor};
 use crate::items::push_plain;
 use crate::kept::Kept;
 use boundary_code::{boundary, boundary_list};
-use ido_base::log::Log;
 use ido_base::memory::OutOfMemory;
+use log_schemes::log::Log;
 use rv64_isa::instr::Instr;
 use rv64_isa::object::CodeItem;
 use std::alloc::Global;

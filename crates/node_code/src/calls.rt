@@ -11,8 +11,8 @@ ghost use Rattle.node_code.specs.links.ItemLists.{asking_items, lock_items, unlo
 use crate::boundaries::{append_boundary, boundary_code};
 use crate::items::{load_small, push_plain};
 use crate::kept::Kept;
-use ido_base::log::Log;
 use ido_base::memory::OutOfMemory;
+use log_schemes::log::Log;
 use rv64_isa::field::Register;
 use rv64_isa::instr::Instr;
 use rv64_isa::object::CodeItem;

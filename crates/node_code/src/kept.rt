@@ -1,5 +1,5 @@
 //! What a boundary keeps.
-use ido_base::log::Log;
+use log_schemes::log::Log;
 use rv64_isa::field::Register;
 use rv64_isa::instr::Instr;
 

@@ -1,6 +1,6 @@
 -- What the definitions compute.
 use Rattle.std.specs.Prelude.{◌≡◌, ℕ, List, [], ◌∷◌, ◌++◌, take, drop, refl, Ok, Err}
-use Rattle.ido_base.specs.declared.log.Log.TheVariants.{V1, V2}
+use Rattle.log_schemes.specs.declared.log.Log.TheVariants.{V1, V2}
 use Rattle.rv64_isa.specs.Formats.{decoded}
 use Rattle.file_fields.specs.Fields.{Magic, Version, Cut, Field, Rest, magic_at, number_within, repeated, number_at}
 use Rattle.object_format.specs.Contents.{Contents}

@@ -1,8 +1,8 @@
 -- Bytes read in their order, as an object, with the first fault and its place. `total` is how many bytes there are in all.
 use Rattle.std.specs.Prelude.{ℕ, ◌%◌, List, length, Result, Ok, Err, is_some, ◌==◌, if◌then◌else◌}
 use Rattle.ido_base.specs.declared.limits.TheConstants.{MOST_THREADS, MOST_VARIABLE_BYTES, MOST_CODE_WORDS}
-use Rattle.ido_base.specs.declared.log.Log.{Log}
-use Rattle.ido_base.specs.declared.log.Log.TheVariants.{V1, V2}
+use Rattle.log_schemes.specs.declared.log.Log.{Log}
+use Rattle.log_schemes.specs.declared.log.Log.TheVariants.{V1, V2}
 use Rattle.rv64_isa.specs.Formats.{decoded}
 use Rattle.file_fields.specs.Fields.{Fault, Reads, Version, ◌>>=◌, bytes_at, number_at, kept, number_within, repeated, magic_at, ended}
 use Rattle.object_format.specs.Contents.{Contents, least_words, most_locks, word_bytes}

@@ -5,7 +5,7 @@ ghost use Rattle.object_format.specs.ObjectDecoder.{initial_at, log_at, word_at}
 use file_fields::error::ReadError;
 use file_fields::reading::{bytes_at, number_at, number_within, place_of};
 use ido_base::limits::{MOST_VARIABLE_BYTES, WORD_BYTES};
-use ido_base::log::Log;
+use log_schemes::log::Log;
 use rv64_isa::word::decode;
 
 /// The log of a version.

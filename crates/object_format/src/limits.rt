@@ -3,7 +3,7 @@ ghost use Rattle.std.specs.Prelude.{◌≡◌};
 ghost use Rattle.object_format.specs.Contents.{most_locks, version_of};
 
 use ido_base::limits::{MOST_LOCKS, MOST_MUTEXES};
-use ido_base::log::Log;
+use log_schemes::log::Log;
 
 /// Code words of a thread at least.
 pub const LEAST_WORDS: u32 = 1;

@@ -13,9 +13,9 @@ use crate::limits::{LEAST_WORDS, most_locks};
 use file_fields::error::ReadError;
 use file_fields::reading::{Reader, magic_at, number_within, place_of, repeated};
 use ido_base::limits::{MOST_CODE_WORDS, MOST_THREADS};
-use ido_base::log::Log;
 use ido_base::memory::OutOfMemory;
-use rv64_isa::object::Object;
+use log_schemes::log::Log;
+use machine_model::object::Object;
 use std::alloc::Global;
 
 /// What stands before the code.

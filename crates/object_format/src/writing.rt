@@ -7,7 +7,7 @@ ghost use Rattle.object_format.specs.ObjectEncoder.{HasLengths, magic, thread_te
 use crate::limits::version_of;
 use file_fields::writing::{put, put_number, put_numbers};
 use ido_base::memory::OutOfMemory;
-use rv64_isa::object::Object;
+use machine_model::object::Object;
 use std::alloc::Global;
 
 /// Adds the code of a thread.

@@ -1,11 +1,11 @@
 -- Worked rows: which hart can step.
 use Rattle.std.proofs.Common.{◌≡◌, ℕ, Option, Some, None, false, ◌==◌, if◌then◌else◌, refl}
-use Rattle.ido_base.specs.declared.event.Event.{Event}
-use Rattle.ido_base.specs.declared.event.Event.TheVariants.{Step, Evict, Crash, Start}
-use Rattle.ido_base.specs.declared.event.Cause.TheVariants.{NoCode}
-use Rattle.ido_base.specs.declared.event.Reply.{Reply}
-use Rattle.ido_base.specs.declared.event.Reply.TheVariants.{Moved, Waits, Still, Stuck, Device}
-use Rattle.ido_base.specs.Cores.{Behaviour, least_enabled}
+use Rattle.machine_events.specs.declared.event.Event.{Event}
+use Rattle.machine_events.specs.declared.event.Event.TheVariants.{Step, Evict, Crash, Start}
+use Rattle.machine_events.specs.declared.event.Cause.TheVariants.{NoCode}
+use Rattle.machine_events.specs.declared.event.Reply.{Reply}
+use Rattle.machine_events.specs.declared.event.Reply.TheVariants.{Moved, Waits, Still, Stuck, Device}
+use Rattle.machine_events.specs.Cores.{Behaviour, least_enabled}
 use Rattle.part_tests.specs.CountingCore.{counting}
 
 -- hart 0 waits for hart 2, hart 1 has ended, hart 2 is stuck, and all others go on

@@ -8,8 +8,8 @@ ghost use Rattle.hart_board.specs.Seats.{IsSeatOf, number, numbers_of, seats_of,
 use crate::counter::Counter;
 use hart_board::board::Board;
 use hart_board::seat::{Seat, TryTurn, Turn};
-use ido_base::event::Reply;
-use ido_base::machine::Core;
+use machine_events::event::Reply;
+use machine_events::machine::Core;
 use std::test::Fail;
 
 /// The seats of a board that has two.

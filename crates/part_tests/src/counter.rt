@@ -1,14 +1,14 @@
 //! A small core, which shows that what is asked of a core can be met.
 ghost use Rattle.std.specs.Prelude.{◌≡◌, ◌-◌, ◌<◌, ◌≤◌, [], IfOk};
-ghost use Rattle.ido_base.specs.Layout.{line_count};
-ghost use Rattle.ido_base.specs.declared.log.Log.TheVariants.{V1};
+ghost use Rattle.log_schemes.specs.Layout.{line_count};
+ghost use Rattle.log_schemes.specs.declared.log.Log.TheVariants.{V1};
 ghost use Rattle.std.specs.Vec.{vec_capacity, vec_len};
 ghost use Rattle.part_tests.specs.CountingCore.{counting, is_step, next, reply};
-ghost use Rattle.ido_base.specs.Cores.{played, passed_count};
+ghost use Rattle.machine_events.specs.Cores.{played, passed_count};
 
-use ido_base::event::{Event, Reply};
-use ido_base::machine::Core;
 use ido_base::memory::OutOfMemory;
+use machine_events::event::{Event, Reply};
+use machine_events::machine::Core;
 use std::alloc::{AllocError, Global};
 
 /// Steps after which the hart has ended.

@@ -4,8 +4,8 @@ use crate::points::Points;
 use hart_driver::drive::{Driven, drive};
 use hart_driver::stop::Stop;
 use hart_driver::sweep::sweep;
-use ido_base::evictions::Evictions;
 use ido_outside::OpenGate;
+use machine_events::evictions::Evictions;
 use std::test::Fail;
 
 /// One eviction again and again.

@@ -5,13 +5,13 @@ ghost use Rattle.ido_base.specs.declared.limits.TheConstants.{MOST_CODE_WORDS};
 use hart_core::hart::Hart;
 use hart_core::program::Program;
 use hart_core::step::step;
-use ido_base::event::{Cause, Reply};
-use ido_base::log::Log;
 use ido_base::memory::OutOfMemory;
 use line_memory::memory::LineMemory;
 use lock_table::LockTable;
-use rv64_isa::object::Object;
-use rv64_isa::phase::Phase;
+use log_schemes::log::Log;
+use machine_events::event::{Cause, Reply};
+use machine_model::object::Object;
+use machine_model::phase::Phase;
 use std::alloc::Global;
 use std::test::Fail;
 

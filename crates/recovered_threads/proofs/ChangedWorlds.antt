@@ -4,11 +4,11 @@ use Rattle.std.specs.Prelude.{slice_get}
 use Rattle.std.proofs.lemmas.Option.{same_Some}
 use Rattle.std.proofs.lemmas.List.{length-set}
 use Rattle.ido_base.specs.Words.{Entry}
-use Rattle.ido_base.specs.declared.event.Event.TheVariants.{Step}
-use Rattle.ido_base.specs.declared.event.Reply.{Reply}
+use Rattle.machine_events.specs.declared.event.Event.TheVariants.{Step}
+use Rattle.machine_events.specs.declared.event.Reply.{Reply}
 use Rattle.rv64_isa.specs.declared.object.Slot.{Slot}
-use Rattle.rv64_isa.specs.Machine.{Hart, World, Outcome, happens, after_event, reply_to}
-use Rattle.rv64_isa.proofs.Public.{get-set_same, get-set_other}
+use Rattle.machine_model.specs.Machine.{Hart, World, Outcome, happens, after_event, reply_to}
+use Rattle.machine_model.proofs.Public.{get-set_same, get-set_other}
 use Rattle.log_states.specs.Logs.{Record, nothing_recorded}
 use Rattle.log_states.specs.Stages.{LogIs}
 use Rattle.recovered_threads.specs.RecoveryStates.{HasRecord}

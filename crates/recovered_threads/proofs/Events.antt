@@ -3,22 +3,23 @@ use Rattle.std.proofs.Common.{◌≡◌, ◌≢◌, inl, inr, ℕ, ◌/◌, ◌=
 use Rattle.std.specs.Prelude.{slice_get, nat_lt}
 use Rattle.std.proofs.lemmas.Bool.{cond_both}
 use Rattle.std.proofs.lemmas.Option.{none-some, same_Some}
-use Rattle.ido_base.specs.declared.event.Event.{Event}
-use Rattle.ido_base.specs.declared.event.Event.TheVariants.{Step, Evict, Crash, Start}
+use Rattle.machine_events.specs.declared.event.Event.{Event}
+use Rattle.machine_events.specs.declared.event.Event.TheVariants.{Step, Evict, Crash, Start}
 use Rattle.ido_base.specs.Words.{Entry, entry_of, drained, stored}
 use Rattle.ido_base.specs.Locks.{is_held_by, has_lock, least_held}
-use Rattle.ido_base.specs.Layout.{in_range, aligned, byte_number}
+use Rattle.ido_base.specs.Layout.{aligned, byte_number}
+use Rattle.log_schemes.specs.Layout.{in_range}
 use Rattle.rv64_isa.specs.declared.object.Slot.{Slot}
 use Rattle.rv64_isa.specs.declared.object.Slot.TheVariants.{Row, NoRow}
-use Rattle.rv64_isa.specs.declared.phase.Phase.{Phase}
-use Rattle.rv64_isa.specs.declared.phase.Phase.TheVariants.{Take, Wait, Resume, Run, Done, Ended}
+use Rattle.machine_model.specs.declared.phase.Phase.{Phase}
+use Rattle.machine_model.specs.declared.phase.Phase.TheVariants.{Take, Wait, Resume, Run, Done, Ended}
 use Rattle.rv64_isa.specs.Rows.{Effect, Continues, Loads, Stores, Cleans, Fences, Calls, row, read, next}
 use Rattle.rv64_isa.specs.Programs.{fetched}
-use Rattle.rv64_isa.specs.Machine.{Hart, World, Outcome, moved, with_holder, drain_one, access, cleaned, fenced, acquired, released, ended, called, applied}
-use Rattle.rv64_isa.specs.Machine.{executed}
-use Rattle.rv64_isa.specs.Machine.{hart_step, over_after, done_if_over, stepped, happens, after_event}
-use Rattle.rv64_isa.specs.Frames.{IsWellFormedWorld, Touches, IsHeldOn, Stays, Takes, Gives}
-use Rattle.rv64_isa.proofs.Public.{get-set_same, steps_touch}
+use Rattle.machine_model.specs.Machine.{Hart, World, Outcome, moved, with_holder, drain_one, access, cleaned, fenced, acquired, released, ended, called, applied}
+use Rattle.machine_model.specs.Machine.{executed}
+use Rattle.machine_model.specs.Machine.{hart_step, over_after, done_if_over, stepped, happens, after_event}
+use Rattle.machine_model.specs.Frames.{IsWellFormedWorld, Touches, IsHeldOn, Stays, Takes, Gives}
+use Rattle.machine_model.proofs.Public.{get-set_same, steps_touch}
 use Rattle.flow_graph.proofs.Public.{get_cases}
 use Rattle.log_states.specs.Logs.{Record, nothing_recorded}
 use Rattle.log_states.specs.Machines.{IsElsewhere}
@@ -33,7 +34,7 @@ use Rattle.recovered_threads.specs.RecoveryStates.{Awaits, all_have, one_takes}
 use Rattle.recovered_threads.specs.Laws.{AreRecordsApart, EventsRecover}
 use Rattle.recovered_threads.proofs.ChangedWorlds.{same_there, same_or_other}
 use Rattle.recovered_threads.proofs.GatheringSteps.{gathers_on, gathered_on, takes_never_wait, waits_for_takers, gathered_go_on}
-use Rattle.rv64_isa.specs.Schedule.{KeepsOn}
+use Rattle.machine_model.specs.Schedule.{KeepsOn}
 
 -- ---- A step of a hart that executes instructions leaves it executing, or done, or ended
 

@@ -19,7 +19,7 @@ use Rattle.thread_code.specs.Plans.{Plan, IsPlan}
 use Rattle.recovered_threads.specs.RecordDescriptions.{between}
 use Rattle.recovered_threads.specs.Laws.{StartsOrderly, StepsOrderly, StartsTold}
 use Rattle.recovered_threads.proofs.ChangedWorlds.{same_or_other}
-use Rattle.rv64_isa.proofs.Public.{get-set_same, get-set_other}
+use Rattle.machine_model.proofs.Public.{get-set_same, get-set_other}
 
 -- ---- The start
 

@@ -1,11 +1,11 @@
 -- A hart that is resumed goes on where its record says.
 use Rattle.std.proofs.Common.{◌≡◌, ℕ, List, [], refl, ap, sym, ◌∙◌, subst}
 use Rattle.std.specs.List.{Contains}
-use Rattle.ido_base.specs.declared.log.Log.{Log}
+use Rattle.log_schemes.specs.declared.log.Log.{Log}
 use Rattle.rv64_isa.specs.declared.object.Slot.{Slot}
-use Rattle.rv64_isa.specs.declared.phase.Phase.TheVariants.{Resume}
+use Rattle.machine_model.specs.declared.phase.Phase.TheVariants.{Resume}
 use Rattle.rv64_isa.specs.Rows.{read}
-use Rattle.rv64_isa.specs.Machine.{World, resume_of, resumed_registers}
+use Rattle.machine_model.specs.Machine.{World, resume_of, resumed_registers}
 use Rattle.boundary_code.specs.Boundaries.{IsOnSide}
 use Rattle.boundary_code.proofs.Public.{stays_on_side}
 use Rattle.log_states.specs.Logs.{Record, nothing_recorded, side_of, IsRecord}

@@ -2,14 +2,14 @@
 use Rattle.std.proofs.Common.{◌≡◌, ℕ, zero, suc, List, [], ◌∷◌, length, refl, arith, sym, cond, Bool, true, false, Option, Some, None}
 use Rattle.std.proofs.lemmas.Bool.{true≢false}
 use Rattle.std.proofs.lemmas.Option.{none-some, same_Some}
-use Rattle.ido_base.specs.declared.log.Log.TheVariants.{V1}
-use Rattle.ido_base.specs.declared.log.Log.{Log}
-use Rattle.ido_base.specs.declared.event.Event.TheVariants.{Crash}
+use Rattle.log_schemes.specs.declared.log.Log.TheVariants.{V1}
+use Rattle.log_schemes.specs.declared.log.Log.{Log}
+use Rattle.machine_events.specs.declared.event.Event.TheVariants.{Crash}
 use Rattle.source_machine.specs.Mutexes.{held_by}
 use Rattle.rv64_isa.specs.declared.object.Slot.{Slot}
-use Rattle.rv64_isa.specs.declared.phase.Phase.TheVariants.{Take, Resume, Done}
-use Rattle.rv64_isa.specs.Machine.{World, resume_of, start_of, after_event}
-use Rattle.rv64_isa.proofs.Public.{starts_simulate}
+use Rattle.machine_model.specs.declared.phase.Phase.TheVariants.{Take, Resume, Done}
+use Rattle.machine_model.specs.Machine.{World, resume_of, start_of, after_event}
+use Rattle.machine_model.proofs.Public.{starts_simulate}
 use Rattle.log_states.specs.Logs.{Record, nothing_recorded, side_of}
 use Rattle.log_states.specs.Stages.{is_committed}
 use Rattle.log_states.specs.Machines.{config_of}

@@ -1,19 +1,19 @@
 -- What follows from what the records of threads say of the kept state.
 use Rattle.std.specs.Prelude.{◌≡◌, ◌≢◌, ◌⊎◌, ◌↔◌, ℕ, ◌%◌, ◌^◌, ◌<◌, List, [], length, slice_get, Option, Some, None, true, false}
 use Rattle.c_tree.specs.Exprs.{LockName}
-use Rattle.ido_base.specs.declared.log.Log.{Log}
-use Rattle.ido_base.specs.declared.event.Event.{Event}
-use Rattle.ido_base.specs.declared.event.Event.TheVariants.{Step, Crash}
-use Rattle.ido_base.specs.declared.event.Reply.TheVariants.{Moved}
+use Rattle.log_schemes.specs.declared.log.Log.{Log}
+use Rattle.machine_events.specs.declared.event.Event.{Event}
+use Rattle.machine_events.specs.declared.event.Event.TheVariants.{Step, Crash}
+use Rattle.machine_events.specs.declared.event.Reply.TheVariants.{Moved}
 use Rattle.ido_base.specs.Words.{Word}
 use Rattle.ido_base.specs.Locks.{has_lock}
 use Rattle.source_machine.specs.Mutexes.{held_by}
 use Rattle.rv64_isa.specs.declared.object.Slot.{Slot}
-use Rattle.rv64_isa.specs.declared.phase.Phase.{Phase}
-use Rattle.rv64_isa.specs.declared.phase.Phase.TheVariants.{Take, Wait, Resume}
+use Rattle.machine_model.specs.declared.phase.Phase.{Phase}
+use Rattle.machine_model.specs.declared.phase.Phase.TheVariants.{Take, Wait, Resume}
 use Rattle.rv64_isa.specs.Rows.{Effect, read}
-use Rattle.rv64_isa.specs.Machine.{World, after_event, reply_to, durable_point, record_of, start_of}
-use Rattle.rv64_isa.specs.Frames.{IsWellFormedWorld}
+use Rattle.machine_model.specs.Machine.{World, after_event, reply_to, durable_point, record_of, start_of}
+use Rattle.machine_model.specs.Frames.{IsWellFormedWorld}
 use Rattle.boundary_code.specs.Boundaries.{Boundary}
 use Rattle.flow_graph.specs.Nodes.{Unlock, Node}
 use Rattle.flow_graph.specs.Liveness.{NodeAt}
@@ -30,7 +30,7 @@ use Rattle.thread_code.specs.NodeCodeEffects.{keeping}
 use Rattle.recovered_threads.specs.RecordDescriptions.{Code, Codes, IsOrderly, ResumesAt, Describes, AllDescribe, locks_of}
 use Rattle.recovered_threads.specs.Machines.{LogDescribes, LogsDescribe, RecoversTo}
 use Rattle.recovered_threads.specs.RecoveryStates.{IsRecoveredHart, AreGathering, AreGathered, AreRecovering, StoresApart, Awaits, ResumesThread}
-use Rattle.rv64_isa.specs.Schedule.{KeepsOn}
+use Rattle.machine_model.specs.Schedule.{KeepsOn}
 
 -- ---- States
 

@@ -1,7 +1,7 @@
 -- What the logs of a machine say of the kept state, at each moment.
 use Rattle.std.specs.Prelude.{ℕ, ◌<◌, List, length}
 use Rattle.rv64_isa.specs.Rows.{Effect}
-use Rattle.rv64_isa.specs.Machine.{World}
+use Rattle.machine_model.specs.Machine.{World}
 use Rattle.flow_graph.specs.Actions.{FlowState}
 use Rattle.log_states.specs.Logs.{Record}
 use Rattle.log_states.specs.Stages.{left_by_crash}

@@ -4,7 +4,7 @@ use Rattle.c_tree.specs.Exprs.{LockName}
 use Rattle.ido_base.specs.Locks.{holds_none}
 use Rattle.c_tree.specs.Source as m
 use Rattle.source_machine.specs.Discipline.{StateKeeps}
-use Rattle.rv64_isa.specs.Machine.{resume_of}
+use Rattle.machine_model.specs.Machine.{resume_of}
 use Rattle.code_runs.specs.CodeTraces.{Program}
 use Rattle.flow_graph.specs.Nodes.{Lock, Unlock, Node}
 use Rattle.flow_graph.specs.Actions.{GraphThread, FlowState, seen_by}

@@ -1,14 +1,14 @@
 -- A machine in recovery, until its harts have gone on.
 use Rattle.std.specs.Prelude.{◌≡◌, ◌≢◌, ℕ, ◌<◌, List, [], length, slice_get, Option, Some, true}
 use Rattle.std.specs.List.{Contains}
-use Rattle.ido_base.specs.declared.event.Event.{Event}
-use Rattle.ido_base.specs.declared.event.Event.TheVariants.{Step}
-use Rattle.ido_base.specs.declared.event.Reply.TheVariants.{Moved, Barrier}
+use Rattle.machine_events.specs.declared.event.Event.{Event}
+use Rattle.machine_events.specs.declared.event.Event.TheVariants.{Step}
+use Rattle.machine_events.specs.declared.event.Reply.TheVariants.{Moved, Barrier}
 use Rattle.ido_base.specs.Locks.{has_lock}
 use Rattle.rv64_isa.specs.declared.object.Slot.{Slot}
-use Rattle.rv64_isa.specs.declared.phase.Phase.{Phase}
-use Rattle.rv64_isa.specs.declared.phase.Phase.TheVariants.{Take, Wait, Resume, Run, Done, Ended}
-use Rattle.rv64_isa.specs.Machine.{Hart, World, moved, happens, after_event, reply_to, resume_of}
+use Rattle.machine_model.specs.declared.phase.Phase.{Phase}
+use Rattle.machine_model.specs.declared.phase.Phase.TheVariants.{Take, Wait, Resume, Run, Done, Ended}
+use Rattle.machine_model.specs.Machine.{Hart, World, moved, happens, after_event, reply_to, resume_of}
 use Rattle.flow_graph.specs.Actions.{FlowState, seen_by}
 use Rattle.log_states.specs.Logs.{Record, nothing_recorded, side_of}
 use Rattle.log_states.specs.Laws.{IsAtRecord}

@@ -5,7 +5,7 @@ use Rattle.std.specs.Prelude.{slice_get, min, not}
 use Rattle.std.proofs.lemmas.Bool.{cases_lt}
 use Rattle.std.proofs.lemmas.Option.{slice_get_within}
 use Rattle.ido_base.specs.Locks.{is_held_by, is_missing, lesser, least_missing}
-use Rattle.rv64_isa.specs.Machine.{numbers_from}
+use Rattle.machine_model.specs.Machine.{numbers_from}
 
 taken_few : (f : ℕ → ℕ) (at count n : ℕ) → n ≤ count → take n (map f (numbers_from at count)) ≡ map f (numbers_from at n)
 taken_few f at count zero few = refl

@@ -2,16 +2,16 @@
 use Rattle.std.proofs.Common.{◌≡◌, ℕ, ◌-◌, ◌*◌, ◌%◌, ◌<◌, ◌==◌, eqb, List, [], map, take, Option}
 use Rattle.std.proofs.Common.{None, Bool, true, false, refl, sym, ◌∙◌, ap, arith, if◌then◌else◌}
 use Rattle.std.proofs.lemmas.Bool.{cond-true, cond-false, eq-eqb, ne_eqb}
-use Rattle.ido_base.specs.declared.log.Log.{Log}
-use Rattle.ido_base.specs.declared.log.Log.TheVariants.{V1, V2}
-use Rattle.ido_base.specs.Layout.{bank_bytes, slot_at}
+use Rattle.log_schemes.specs.declared.log.Log.{Log}
+use Rattle.log_schemes.specs.declared.log.Log.TheVariants.{V1, V2}
+use Rattle.log_schemes.specs.Layout.{bank_bytes, slot_at}
 use Rattle.ido_base.specs.Locks.{least_missing, locks_in}
 use Rattle.ido_base.specs.Words.{Word}
-use Rattle.memory_layout.specs.declared.point.Point.TheVariants.{Idle, At}
-use Rattle.memory_layout.specs.Points.{point_of}
-use Rattle.rv64_isa.specs.declared.phase.Phase.TheVariants.{Take, Done}
-use Rattle.rv64_isa.specs.Machine.{bank_of, resume_of, durable_at, durable_point, record_of}
-use Rattle.rv64_isa.specs.Machine.{resumed_register, resumed_registers, numbers_from, phase_after_crash}
+use Rattle.log_schemes.specs.declared.point.Point.TheVariants.{Idle, At}
+use Rattle.log_schemes.specs.Points.{point_of}
+use Rattle.machine_model.specs.declared.phase.Phase.TheVariants.{Take, Done}
+use Rattle.machine_model.specs.Machine.{bank_of, resume_of, durable_at, durable_point, record_of}
+use Rattle.machine_model.specs.Machine.{resumed_register, resumed_registers, numbers_from, phase_after_crash}
 use Rattle.resume_recovery.specs.links.Points.{bank_in}
 
 -- a word that isn't 0, and where it says to go on

@@ -1,19 +1,19 @@
 -- Steps of recovery.
 use Rattle.std.proofs.Common.{◌≡◌, ℕ, zero, suc, ◌+◌, ◌<◌, List, [], ◌∷◌, length, map, get_or, get_or-set_same, arith}
 use Rattle.std.proofs.Common.{slice_get, slice_set, Option, Some, None, is_some, refl, sym, ◌∙◌, ap, subst, if◌then◌else◌}
-use Rattle.ido_base.specs.declared.event.Reply.{Reply}
-use Rattle.ido_base.specs.declared.event.Reply.TheVariants.{Moved, Waits, Barrier, Still}
-use Rattle.ido_base.specs.Cores.{is_idle}
+use Rattle.machine_events.specs.declared.event.Reply.{Reply}
+use Rattle.machine_events.specs.declared.event.Reply.TheVariants.{Moved, Waits, Barrier, Still}
+use Rattle.machine_events.specs.Cores.{is_idle}
 use Rattle.ido_base.specs.Locks.{least_missing}
-use Rattle.ido_base.specs.declared.log.Log.{Log}
+use Rattle.log_schemes.specs.declared.log.Log.{Log}
 use Rattle.ido_base.specs.Words.{Word}
 use Rattle.line_memory.specs.declared.memory.LineMemory.{LineMemory}
 use Rattle.line_memory.specs.links.MemoryRepresentation.{Represents, Logs, log_in}
 use Rattle.rv64_isa.specs.declared.object.Slot.{Slot}
-use Rattle.rv64_isa.specs.declared.phase.Phase.{Phase}
-use Rattle.rv64_isa.specs.declared.phase.Phase.TheVariants.{Take, Wait, Resume, Run, Done, Ended}
-use Rattle.rv64_isa.specs.Machine.{Hart as HartModel, World, Outcome, record_of, taken, waited, taking_from, is_taking}
-use Rattle.rv64_isa.specs.Machine.{resumed, resumed_registers, resume_of, durable_point, numbers_from, phase_step}
+use Rattle.machine_model.specs.declared.phase.Phase.{Phase}
+use Rattle.machine_model.specs.declared.phase.Phase.TheVariants.{Take, Wait, Resume, Run, Done, Ended}
+use Rattle.machine_model.specs.Machine.{Hart as HartModel, World, Outcome, record_of, taken, waited, taking_from, is_taking}
+use Rattle.machine_model.specs.Machine.{resumed, resumed_registers, resume_of, durable_point, numbers_from, phase_step}
 use Rattle.hart_core.specs.declared.hart.Hart.{Hart}
 use Rattle.hart_core.specs.StepsOnParts.{Parts, PartsStand, PartsEnd, IsStep}
 use Rattle.hart_core.proofs.Public.{same_end, changed_end}

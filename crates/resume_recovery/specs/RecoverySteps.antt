@@ -1,10 +1,10 @@
 -- What a step of recovery does to the parts of a machine, by what it does to the world that they represent.
 use Rattle.std.specs.Prelude.{◌≡◌, ℕ, List, map, slice_index_or}
-use Rattle.ido_base.specs.declared.event.Reply.{Reply}
+use Rattle.machine_events.specs.declared.event.Reply.{Reply}
 use Rattle.rv64_isa.specs.declared.object.Slot.{Slot}
-use Rattle.rv64_isa.specs.declared.phase.Phase.{Phase}
-use Rattle.rv64_isa.specs.declared.phase.Phase.TheVariants.{Done}
-use Rattle.rv64_isa.specs.Machine.{Hart as HartModel, World, phase_step}
+use Rattle.machine_model.specs.declared.phase.Phase.{Phase}
+use Rattle.machine_model.specs.declared.phase.Phase.TheVariants.{Done}
+use Rattle.machine_model.specs.Machine.{Hart as HartModel, World, phase_step}
 use Rattle.hart_core.specs.StepsOnParts.{Parts, PartsStand, PartsEnd}
 
 -- the phase of a hart

@@ -1,9 +1,9 @@
 //! Which harts still take locks.
 ghost use Rattle.std.specs.Prelude.{◌≡◌, ◌<◌, ◌^◌, length};
-ghost use Rattle.rv64_isa.specs.Machine.{is_taking};
+ghost use Rattle.machine_model.specs.Machine.{is_taking};
 ghost use Rattle.resume_recovery.specs.links.LeastLockTaker.{taking_among};
 
-use rv64_isa::phase::Phase;
+use machine_model::phase::Phase;
 
 fn is_taking(phase: Phase) -> bool
     ensures { result ≡ is_taking phase }

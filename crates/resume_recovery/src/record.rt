@@ -1,21 +1,21 @@
 //! What a thread's log says durably: the point, and its bank.
 ghost use Rattle.std.specs.Prelude.{◌≡◌, ◌<◌, ℕ, List, Option, Some, IfSome, length, map, take, if◌then◌else◌};
-ghost use Rattle.ido_base.specs.Layout.{slot_at};
+ghost use Rattle.log_schemes.specs.Layout.{slot_at};
 ghost use Rattle.ido_base.specs.Locks.{is_missing, lesser, least_missing};
-ghost use Rattle.ido_base.specs.declared.log.Log.TheVariants.{V2};
+ghost use Rattle.log_schemes.specs.declared.log.Log.TheVariants.{V2};
 ghost use Rattle.ido_base.specs.Words.{Word};
 ghost use Rattle.line_memory.specs.links.MemoryRepresentation.{Represents, log_in, threads_of};
-ghost use Rattle.memory_layout.specs.Points.{point_of};
+ghost use Rattle.log_schemes.specs.Points.{point_of};
 ghost use Rattle.resume_recovery.specs.links.Points.{bank_in};
-ghost use Rattle.rv64_isa.specs.Machine.{numbers_from, resume_of, durable_at, durable_point, record_of, phase_after_crash, resumed_register, resumed_registers};
+ghost use Rattle.machine_model.specs.Machine.{numbers_from, resume_of, durable_at, durable_point, record_of, phase_after_crash, resumed_register, resumed_registers};
 
-use ido_base::log::Log;
 use line_memory::memory::LineMemory;
 use lock_table::LockTable;
-use memory_layout::log::{COUNT_SLOT, FIRST_LOCK_SLOT, MASK_SLOT, MOST_LISTED};
-use memory_layout::point::{Point, read_point};
+use log_schemes::addresses::{COUNT_SLOT, FIRST_LOCK_SLOT, MASK_SLOT, MOST_LISTED};
+use log_schemes::log::Log;
+use log_schemes::point::{Point, read_point};
+use machine_model::phase::Phase;
 use memory_layout::roles::BANK_OFFSET;
-use rv64_isa::phase::Phase;
 
 /// What the hart's durable point says.
 fn point_of(hart: u32, memory: &LineMemory) -> Point

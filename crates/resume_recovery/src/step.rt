@@ -1,12 +1,12 @@
 //! The step of a hart in recovery.
 ghost use Rattle.std.specs.Prelude.{◌≡◌, ◌<◌, ◌^◌, ℕ, List, Option, length, slice_set};
-ghost use Rattle.ido_base.specs.Cores.{is_idle};
+ghost use Rattle.machine_events.specs.Cores.{is_idle};
 ghost use Rattle.ido_base.specs.Locks.{least_missing};
 ghost use Rattle.line_memory.specs.declared.memory.LineMemory.{LineMemory};
 ghost use Rattle.line_memory.specs.links.MemoryRepresentation.{Represents, log_in, threads_of};
 ghost use Rattle.rv64_isa.specs.declared.object.Slot.{Slot};
-ghost use Rattle.rv64_isa.specs.declared.phase.Phase.TheVariants.{Take, Wait, Resume, Run};
-ghost use Rattle.rv64_isa.specs.Machine.{Hart as HartModel, World, record_of, taken, waited, taking_from, resumed, phase_step};
+ghost use Rattle.machine_model.specs.declared.phase.Phase.TheVariants.{Take, Wait, Resume, Run};
+ghost use Rattle.machine_model.specs.Machine.{Hart as HartModel, World, record_of, taken, waited, taking_from, resumed, phase_step};
 ghost use Rattle.hart_core.specs.declared.hart.Hart.{Hart};
 ghost use Rattle.hart_core.specs.StepsOnParts.{Parts, PartsStand, PartsEnd, IsStep};
 ghost use Rattle.resume_recovery.specs.RecoverySteps.{phase_at, phases_of, IsRecoveryStep};
@@ -14,10 +14,10 @@ ghost use Rattle.resume_recovery.specs.RecoverySteps.{phase_at, phases_of, IsRec
 use crate::barrier::least_taking;
 use crate::record::{missing_lock, resume_address, resumed_registers};
 use hart_core::hart::Hart;
-use ido_base::event::Reply;
 use line_memory::memory::LineMemory;
 use lock_table::LockTable;
-use rv64_isa::phase::Phase;
+use machine_events::event::Reply;
+use machine_model::phase::Phase;
 
 /// Takes the least lock of the hart's record that it lacks, or waits for its holder; where it lacks none, it goes
 /// on to wait for the others. The phase that it comes to, and the reply.

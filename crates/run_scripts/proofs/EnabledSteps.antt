@@ -3,10 +3,10 @@ use Rattle.std.proofs.Common.{◌≡◌, ℕ, zero, suc, ◌+◌, ◌-◌, ◌<�
 use Rattle.std.proofs.Common.{take, Bool, true, false, nat_le, if◌then◌else◌, Option, Some, None}
 use Rattle.std.proofs.Common.{refl, sym, ◌∙◌, ap, arith, append_assoc}
 use Rattle.std.proofs.lemmas.List.{append-nil}
-use Rattle.ido_base.specs.declared.event.Event.{Event}
-use Rattle.ido_base.specs.declared.event.Event.TheVariants.{Step}
-use Rattle.ido_base.specs.Cores.{Behaviour, played, is_enabled, least_enabled}
-use Rattle.ido_base.proofs.Public.{played-more}
+use Rattle.machine_events.specs.declared.event.Event.{Event}
+use Rattle.machine_events.specs.declared.event.Event.TheVariants.{Step}
+use Rattle.machine_events.specs.Cores.{Behaviour, played, is_enabled, least_enabled}
+use Rattle.machine_events.proofs.Public.{played-more}
 use Rattle.run_scripts.specs.Plays.{enabled_steps}
 use Rattle.run_scripts.proofs.EventsWithinRoom.{cut, cut_fails}
 

@@ -3,9 +3,9 @@ use Rattle.std.proofs.Common.{◌≡◌, ℕ, zero, suc, ◌+◌, ◌-◌, ◌<�
 use Rattle.std.proofs.Common.{Bool, true, false, if◌then◌else◌, Option, Some, None, refl, sym, arith, ap, ◌∙◌, length-append}
 use Rattle.std.proofs.lemmas.Bool.{le-ltb, ltb-false, ltb-true}
 use Rattle.std.proofs.lemmas.List.{length-replicate, map-append, take_more}
-use Rattle.ido_base.specs.declared.event.Event.{Event}
-use Rattle.ido_base.specs.declared.event.Event.TheVariants.{Step}
-use Rattle.ido_base.specs.Cores.{Behaviour, played, least_enabled}
+use Rattle.machine_events.specs.declared.event.Event.{Event}
+use Rattle.machine_events.specs.declared.event.Event.TheVariants.{Step}
+use Rattle.machine_events.specs.Cores.{Behaviour, played, least_enabled}
 use Rattle.ido_base.specs.declared.limits.TheConstants.{MOST_STEPS_TO}
 use Rattle.run_scripts.specs.Bounds.{line_bound, lines_bound}
 use Rattle.run_scripts.specs.declared.script.Command.{Command}

@@ -2,10 +2,10 @@
 use Rattle.std.proofs.Common.{◌≡◌, ℕ, suc, ◌+◌, ◌-◌, ◌<◌, ◌≤◌, List, [], ◌∷◌, ◌++◌, length, take, Bool}
 use Rattle.std.proofs.Common.{true, false, nat_le, cond, refl, sym, ◌∙◌, ap, arith, append_assoc}
 use Rattle.std.proofs.lemmas.List.{append-nil}
-use Rattle.ido_base.specs.declared.event.Event.{Event}
-use Rattle.ido_base.specs.declared.event.Event.TheVariants.{Step}
-use Rattle.ido_base.specs.Cores.{Behaviour, played, passed_count}
-use Rattle.ido_base.proofs.Public.{played-more, passed_count-more}
+use Rattle.machine_events.specs.declared.event.Event.{Event}
+use Rattle.machine_events.specs.declared.event.Event.TheVariants.{Step}
+use Rattle.machine_events.specs.Cores.{Behaviour, played, passed_count}
+use Rattle.machine_events.proofs.Public.{played-more, passed_count-more}
 use Rattle.run_scripts.specs.Plays.{steps_until}
 use Rattle.run_scripts.proofs.EventsWithinRoom.{cut, cut_fails}
 

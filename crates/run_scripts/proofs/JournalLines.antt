@@ -6,8 +6,8 @@ use Rattle.std.proofs.lemmas.List.Concat.{flat_map-cons}
 use Rattle.std.proofs.lemmas.Bool.{eqb-true, eq-eqb}
 use Rattle.std.proofs.Math.Numerals.{add-one, one-add}
 use Rattle.std.specs.List.{prefix_len}
-use Rattle.ido_base.specs.declared.event.Event.{Event}
-use Rattle.ido_base.specs.declared.event.Event.TheVariants.{Step, Evict, Crash, Start}
+use Rattle.machine_events.specs.declared.event.Event.{Event}
+use Rattle.machine_events.specs.declared.event.Event.TheVariants.{Step, Evict, Crash, Start}
 use Rattle.run_scripts.specs.declared.script.Command.{Command}
 use Rattle.run_scripts.specs.declared.script.Command.TheVariants.{Steps}
 use Rattle.run_scripts.specs.Journals.{command_text, commands_of, with_step}

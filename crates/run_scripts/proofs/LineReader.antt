@@ -4,7 +4,7 @@ use Rattle.std.proofs.Common.{◌++◌, Result, Ok, Err, refl, sym, ◌∙◌, a
 use Rattle.std.specs.Prelude.{◌==◌, if◌then◌else◌, IfOk, IfErr, IsErrAnd}
 use Rattle.std.proofs.lemmas.List.{at_drop_more}
 use Rattle.std.specs.List.{prefix_len}
-use Rattle.ido_base.specs.declared.log.Log.{Log}
+use Rattle.log_schemes.specs.declared.log.Log.{Log}
 use Rattle.run_scripts.specs.Schedules.{is_digit}
 use Rattle.run_scripts.specs.Scripts.{Rule, LineRead, Says, Fails, BadWord, Line, Read, Lines, Refused, before_lines}
 use Rattle.run_scripts.specs.Scripts.{with_line, lines_of, number_then, argument_then, end_then, line_of}

@@ -5,10 +5,10 @@ use Rattle.std.specs.Prelude.{◌↔◌, ◌&&◌, not}
 use Rattle.std.proofs.lemmas.Grind.{common_steps}
 use Rattle.std.proofs.lemmas.List.{append-nil, at_drop_more}
 use Rattle.std.proofs.lemmas.Bool.{le-ltb, leb-true, leb-false, lt-ltb, ltb-false, ltb-true}
-use Rattle.ido_base.specs.declared.event.Event.{Event}
-use Rattle.ido_base.specs.declared.machine.Core.{Ghosts}
-use Rattle.ido_base.specs.Cores.{Behaviour, played}
-use Rattle.ido_base.proofs.Public.{played-append}
+use Rattle.machine_events.specs.declared.event.Event.{Event}
+use Rattle.machine_events.specs.declared.machine.Core.{Ghosts}
+use Rattle.machine_events.specs.Cores.{Behaviour, played}
+use Rattle.machine_events.proofs.Public.{played-append}
 use Rattle.run_scripts.specs.Scripts.{Line}
 use Rattle.run_scripts.specs.declared.script.Line as declared
 use Rattle.run_scripts.specs.links.ScriptViews.{line_of}

@@ -1,9 +1,9 @@
 -- Events that stay valid while they are made.
 use Rattle.std.proofs.Common.{◌≡◌, ℕ, ◌<◌, subst, sym}
 use Rattle.std.specs.Prelude.{◌↔◌}
-use Rattle.ido_base.specs.declared.event.Event.{Event}
-use Rattle.ido_base.specs.declared.event.Event.TheVariants.{Step, Evict, Crash, Start}
-use Rattle.ido_base.specs.Cores.{IsValid}
+use Rattle.machine_events.specs.declared.event.Event.{Event}
+use Rattle.machine_events.specs.declared.event.Event.TheVariants.{Step, Evict, Crash, Start}
+use Rattle.machine_events.specs.Cores.{IsValid}
 
 pub still_valid : (harts other : ℕ) (P Q : ℕ → ℕ → Type 0) → other ≡ harts → ((line mask : ℕ) → Q line mask ↔ P line mask) → (e : Event) →
     IsValid harts P e → IsValid other Q e

@@ -1,9 +1,9 @@
 -- Rounds, made one after another.
 use Rattle.std.proofs.Common.{◌≡◌, ℕ, ◌-◌, ◌<◌, min, List, [], ◌++◌, sym, ap, ◌∙◌, subst, append_assoc}
 use Rattle.std.proofs.lemmas.List.{append-nil}
-use Rattle.ido_base.specs.declared.event.Event.{Event}
-use Rattle.ido_base.specs.Cores.{Behaviour, played}
-use Rattle.ido_base.proofs.Public.{played-append}
+use Rattle.machine_events.specs.declared.event.Event.{Event}
+use Rattle.machine_events.specs.Cores.{Behaviour, played}
+use Rattle.machine_events.proofs.Public.{played-append}
 use Rattle.run_scripts.specs.Rounds.{AreWholeRounds, HasRounds, IsOneGoing, round, round_of}
 
 module _ {M : Type 0} (b : Behaviour M) (harts most : ℕ) (opening : M) (before : List Event) where

@@ -3,8 +3,8 @@ use Rattle.std.proofs.Common.{◌≡◌, ℕ, ◌+◌, ◌<◌, ◌≤◌, List,
 use Rattle.std.specs.Prelude.{◌==◌, if◌then◌else◌}
 use Rattle.std.specs.List.{AllByRecursion, prefix_len}
 use Rattle.std.proofs.lemmas.Bool.{ltb-true, leb-true}
-use Rattle.ido_base.specs.declared.log.Log.{Log}
-use Rattle.ido_base.specs.Layout.{line_count}
+use Rattle.log_schemes.specs.declared.log.Log.{Log}
+use Rattle.log_schemes.specs.Layout.{line_count}
 use Rattle.run_scripts.specs.Pieces.{Piece, lines_at}
 use Rattle.run_scripts.specs.Schedules.{is_digit, number_limit}
 use Rattle.run_scripts.specs.Scripts.{Fault, LineRead, Says, Fails, Rule, any_number, hart_number, line_number, mask_number}

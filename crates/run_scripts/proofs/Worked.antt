@@ -2,10 +2,10 @@
 use Rattle.std.specs.Prelude.{◌≡◌, ◌==◌, ℕ, suc, [], ◌∷◌, ◌++◌, List, Some, None, false, refl, codes, pos, negsuc}
 use Rattle.std.specs.Fmt.{digits}
 use Rattle.rand_core.specs.Steps.{first_words}
-use Rattle.ido_base.specs.declared.event.Event.TheVariants as events
-use Rattle.ido_base.specs.declared.event.Reply.TheVariants.{Moved}
-use Rattle.ido_base.specs.declared.log.Log.TheVariants.{V1, V2}
-use Rattle.ido_base.specs.Cores.{Behaviour}
+use Rattle.machine_events.specs.declared.event.Event.TheVariants as events
+use Rattle.machine_events.specs.declared.event.Reply.TheVariants.{Moved}
+use Rattle.log_schemes.specs.declared.log.Log.TheVariants.{V1, V2}
+use Rattle.machine_events.specs.Cores.{Behaviour}
 use Rattle.run_scripts.specs.Draws.{drawn_event, drawn_evictions, drawn_run, events_from}
 use Rattle.run_scripts.specs.GeneratedSources.{generated_source, mutex_item, section_line, thread_head, thread_item, variable_item}
 use Rattle.run_scripts.specs.Journals.{command_text, journal_text}

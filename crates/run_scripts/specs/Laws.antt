@@ -1,9 +1,9 @@
 -- What holds of journals that are read back.
 use Rattle.std.specs.Prelude.{◌≡◌, ℕ, ◌<◌, ◌≤◌, List, All, None, length, flat_map, true}
-use Rattle.ido_base.specs.declared.event.Event.{Event}
+use Rattle.machine_events.specs.declared.event.Event.{Event}
 use Rattle.ido_base.specs.declared.limits.TheConstants.{MOST_THREADS}
-use Rattle.ido_base.specs.declared.log.Log.{Log}
-use Rattle.ido_base.specs.Cores.{Behaviour, IsValidNow}
+use Rattle.log_schemes.specs.declared.log.Log.{Log}
+use Rattle.machine_events.specs.Cores.{Behaviour, IsValidNow}
 use Rattle.run_scripts.specs.Journals.{command_text, commands_of}
 use Rattle.run_scripts.specs.Plays.{MayStart, play_fault, script_events}
 use Rattle.run_scripts.specs.Schedules.{number_limit}

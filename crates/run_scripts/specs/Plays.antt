@@ -1,8 +1,8 @@
 -- The events of a script, made by a core.
 use Rattle.std.specs.Prelude.{◌≡◌, ℕ, zero, suc, ◌-◌, List, [], ◌∷◌, ◌++◌, length, replicate, Option, Some, None, Bool, true, false, not, nat_lt, if◌then◌else◌}
-use Rattle.ido_base.specs.declared.event.Event.{Event}
-use Rattle.ido_base.specs.declared.event.Event.TheVariants as events
-use Rattle.ido_base.specs.Cores.{Behaviour, played, least_enabled}
+use Rattle.machine_events.specs.declared.event.Event.{Event}
+use Rattle.machine_events.specs.declared.event.Event.TheVariants as events
+use Rattle.machine_events.specs.Cores.{Behaviour, played, least_enabled}
 use Rattle.ido_base.specs.declared.limits.TheConstants.{MOST_STEPS_TO}
 use Rattle.run_scripts.specs.declared.script.Command.{Command}
 use Rattle.run_scripts.specs.declared.script.Command.TheVariants.{Steps, Point, Fence, Enabled, Evict, Crash, Start}

@@ -1,8 +1,8 @@
 -- Rounds over the harts of a core.
 use Rattle.std.specs.Prelude.{◌≡◌, ℕ, zero, suc, ◌-◌, ◌<◌, min, List, [], ◌∷◌, ◌++◌, true, false}
-use Rattle.ido_base.specs.declared.event.Event.{Event}
-use Rattle.ido_base.specs.declared.event.Event.TheVariants.{Step}
-use Rattle.ido_base.specs.Cores.{Behaviour, played}
+use Rattle.machine_events.specs.declared.event.Event.{Event}
+use Rattle.machine_events.specs.declared.event.Event.TheVariants.{Step}
+use Rattle.machine_events.specs.Cores.{Behaviour, played}
 
 -- a step of each of so many harts, in ascending order
 abbrev pub round_of : (harts : ℕ) → List Event

@@ -1,14 +1,14 @@
 //! Drawn runs: events by the words of a generator.
 ghost use Rattle.std.specs.Prelude.{◌≡◌, ◌+◌, ◌*◌, ◌<◌, ◌≤◌, ◌^◌, ◌++◌, ◌∷◌, [], ◌==◌, ℕ, count_by, replicate, OnOk, IfOk};
-ghost use Rattle.ido_base.specs.declared.event.Event.TheVariants as e;
+ghost use Rattle.machine_events.specs.declared.event.Event.TheVariants as e;
 ghost use Rattle.ido_base.specs.declared.limits.TheConstants.{MOST_THREADS, VARIABLE_LINES};
-ghost use Rattle.ido_base.specs.Layout.{log_lines};
+ghost use Rattle.log_schemes.specs.Layout.{log_lines};
 ghost use Rattle.run_scripts.specs.Draws.{crashes_at, drawn_event, drawn_line, drawn_mask, drawn_run};
 
-use ido_base::event::Event;
 use ido_base::limits::VARIABLE_LINES;
-use ido_base::log::Log;
 use ido_base::memory::OutOfMemory;
+use log_schemes::log::Log;
+use machine_events::event::Event;
 use rand_core::SeedableRng;
 use rand_core::utils::NextWord;
 use rand_xoshiro::SplitMix64;

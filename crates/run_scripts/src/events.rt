@@ -1,9 +1,9 @@
 //! Events that are known before a run.
 ghost use Rattle.std.specs.Prelude.{◌≡◌, ◌↔◌, ◌+◌, ◌≤◌, ◌++◌, ℕ, All, length};
-ghost use Rattle.ido_base.specs.Cores.{IsValid};
+ghost use Rattle.machine_events.specs.Cores.{IsValid};
 
-use ido_base::event::Event;
-use ido_base::machine::Core;
+use machine_events::event::Event;
+use machine_events::machine::Core;
 
 /// Makes events on a core, one after another.
 pub fn make_events<C: Core>(core: &mut C, events: &[Event])

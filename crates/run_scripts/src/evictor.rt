@@ -3,8 +3,8 @@ ghost use Rattle.std.specs.Prelude.{◌<◌, ◌≤◌};
 ghost use Rattle.ido_base.specs.declared.limits.TheConstants.{MOST_THREADS, VARIABLE_LINES};
 
 use crate::draw::{drawn_line, drawn_mask};
-use ido_base::evictions::Evictions;
-use ido_base::log::Log;
+use log_schemes::log::Log;
+use machine_events::evictions::Evictions;
 use rand_core::SeedableRng;
 use rand_core::utils::NextWord;
 use rand_xoshiro::SplitMix64;

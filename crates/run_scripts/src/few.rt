@@ -1,7 +1,7 @@
 //! The play of a script of few events.
 ghost use Rattle.std.specs.Prelude.{◌≡◌, ◌↔◌, ◌+◌, ◌-◌, ◌≤◌, ◌++◌, ℕ, All, Some, None, length, map, take, OnOk, IfErr};
 ghost use Rattle.ido_base.specs.declared.limits.TheConstants.{MOST_EVENTS};
-ghost use Rattle.ido_base.specs.Cores.{played};
+ghost use Rattle.machine_events.specs.Cores.{played};
 ghost use Rattle.run_scripts.specs.Plays.{fault_within, script_events};
 ghost use Rattle.run_scripts.specs.Scripts.{IsDoable};
 ghost use Rattle.run_scripts.specs.links.ScriptViews as views;
@@ -9,8 +9,8 @@ ghost use Rattle.run_scripts.specs.links.ScriptViews as views;
 use crate::play::{is_refused, play_line};
 use crate::script::Script;
 use ido_base::limits::MOST_EVENTS;
-use ido_base::machine::Core;
 use ido_base::place::Place;
+use machine_events::machine::Core;
 use thiserror::Error;
 
 /// Why a script isn't played to its end, and where the line stands at which that is found.

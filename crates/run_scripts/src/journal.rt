@@ -8,8 +8,8 @@ ghost use Rattle.run_scripts.specs.links.JournalSteps.{is_step_of};
 
 use crate::report::put;
 use crate::script::Command;
-use ido_base::event::Event;
 use ido_base::memory::OutOfMemory;
+use machine_events::event::Event;
 use std::alloc::Global;
 
 /// How many events at the front are steps of this hart.

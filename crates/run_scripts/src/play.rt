@@ -1,18 +1,18 @@
 //! The play of a script on a core.
 ghost use Rattle.std.specs.Prelude.{◌≡◌, ◌↔◌, ◌+◌, ◌-◌, ◌<◌, ◌≤◌, ◌++◌, ◌∷◌, ◌&&◌, [], ℕ, All, length, map, nat_le, nat_lt, replicate, take};
 ghost use Rattle.std.specs.Prelude.{false, true, Some, None, IfOk, IfErr};
-ghost use Rattle.ido_base.specs.declared.event.Event.TheVariants as events;
-ghost use Rattle.ido_base.specs.Cores.{IsValid, played, passed_count};
+ghost use Rattle.machine_events.specs.declared.event.Event.TheVariants as events;
+ghost use Rattle.machine_events.specs.Cores.{IsValid, played, passed_count};
 ghost use Rattle.run_scripts.specs.Scripts.{IsDoable};
 ghost use Rattle.run_scripts.specs.Plays.{enabled_steps, is_refused, line_events, play_fault, script_events, steps_until};
 ghost use Rattle.run_scripts.specs.links.Goals.{reaches};
 ghost use Rattle.run_scripts.specs.links.ScriptViews as views;
 
 use crate::script::{Command, Script};
-use ido_base::event::Event;
 use ido_base::limits::MOST_STEPS_TO;
-use ido_base::machine::Core;
 use ido_base::place::Place;
+use machine_events::event::Event;
+use machine_events::machine::Core;
 use thiserror::Error;
 
 /// Why a script isn't played to its end, and where the line stands at which that is found.

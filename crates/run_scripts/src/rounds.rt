@@ -1,10 +1,10 @@
 //! Rounds over the harts of a core.
 ghost use Rattle.std.specs.Prelude.{◌≡◌, ◌↔◌, ◌+◌, ◌≤◌, ◌++◌, ℕ, MatchBool};
-ghost use Rattle.ido_base.specs.Cores.{played};
+ghost use Rattle.machine_events.specs.Cores.{played};
 ghost use Rattle.run_scripts.specs.Rounds.{AreAllStopped, HasRounds, IsOneGoing, round_of};
 
-use ido_base::event::Event;
-use ido_base::machine::Core;
+use machine_events::event::Event;
+use machine_events::machine::Core;
 
 /// Each hart has ended, or its recovery is done.
 fn all_stopped<C: Core>(core: &C) -> bool

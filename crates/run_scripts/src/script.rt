@@ -1,7 +1,7 @@
 //! Scripts, as they are written.
 ghost use Rattle.std.specs.Prelude.{◌≡◌, ◌+◌, ◌<◌, ◌≤◌, ◌^◌, ℕ, List, All, drop, length, map, min, option_map, OnOk, IfOk, IfErr, IfSome, ◌++◌, ◌∷◌, []};
 ghost use Rattle.ido_base.specs.declared.limits.TheConstants.{MOST_INPUT_BYTES};
-ghost use Rattle.ido_base.specs.Layout.{line_count};
+ghost use Rattle.log_schemes.specs.Layout.{line_count};
 ghost use Rattle.run_scripts.specs.Scripts.{LineRead, Says, Fails, number_then, argument_then, end_then, steps_line, point_line};
 ghost use Rattle.run_scripts.specs.Scripts.{fence_line, enabled_line, evict_line, line_of, read, Lines, Refused, IsDoable, IsEviction};
 ghost use Rattle.run_scripts.specs.declared.script.Command.{Command};
@@ -13,9 +13,9 @@ use crate::draw::log_lines;
 use crate::number::{NUMBER_LIMIT, leading_digits};
 use crate::piece::{Gap, next_piece, piece_at};
 use ido_base::limits::VARIABLE_LINES;
-use ido_base::log::Log;
 use ido_base::memory::OutOfMemory;
 use ido_base::place::Place;
+use log_schemes::log::Log;
 use std::alloc::Global;
 use thiserror::Error;
 

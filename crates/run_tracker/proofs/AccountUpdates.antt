@@ -4,9 +4,9 @@ use Rattle.std.proofs.Common.{slice_set, get_or, replicate, Bool, true, false, �
 use Rattle.std.proofs.Common.{◌∙◌, arith, inl, inr, length-set, length-append, get_or-set_same, get_or-set_other, append-nil, append_assoc, flat_map}
 use Rattle.std.proofs.lemmas.Bool.{cases_eq, eq-eqb, eqb-true}
 use Rattle.std.proofs.lemmas.List.{drop-append-le}
-use Rattle.ido_base.specs.declared.log.Log.{Log}
+use Rattle.log_schemes.specs.declared.log.Log.{Log}
 use Rattle.ido_base.specs.Words.{Word, word_at}
-use Rattle.rv64_isa.specs.Schedule.{Steps, HartSteps, Bound, hart_steps, no_steps, with_bound, with_kept, durable_steps}
+use Rattle.machine_model.specs.Schedule.{Steps, HartSteps, Bound, hart_steps, no_steps, with_bound, with_kept, durable_steps}
 use Rattle.run_tracker.specs.declared.account.PointStore.{PointStore}
 use Rattle.run_tracker.specs.declared.account.OpenSteps.{OpenSteps}
 use Rattle.run_tracker.specs.declared.account.Account.{Account}

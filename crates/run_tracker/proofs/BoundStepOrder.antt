@@ -3,10 +3,10 @@ use Rattle.std.proofs.Common.{◌≡◌, ◌⊎◌, ℕ, zero, suc, ◌+◌, ◌
 use Rattle.std.proofs.Common.{refl, ap, sym, subst, ◌∙◌, arith, inl, inr, length-append, get_or-set_same, get_or-set_other}
 use Rattle.std.proofs.lemmas.Bool.{cases_eq, cases_lt}
 use Rattle.std.proofs.lemmas.List.{set_past}
-use Rattle.ido_base.specs.declared.log.Log.{Log}
+use Rattle.log_schemes.specs.declared.log.Log.{Log}
 use Rattle.ido_base.specs.Words.{Word, word_at, last_position}
 use Rattle.ido_base.specs.Growth.{IsChanged, AreChanged}
-use Rattle.rv64_isa.specs.Schedule.{Steps, HartSteps, Bound, hart_steps, no_steps, with_begun, with_bound, with_kept, with_all_kept}
+use Rattle.machine_model.specs.Schedule.{Steps, HartSteps, Bound, hart_steps, no_steps, with_begun, with_bound, with_kept, with_all_kept}
 use Rattle.run_tracker.specs.links.AccountRepresentation.{AllUpTo, IsAscending, AreOrdered, point_word}
 use Rattle.run_tracker.proofs.BoundSteps.{later, up_to_more, up_to_push, ascending_push, up_to_later, ascending_later}
 

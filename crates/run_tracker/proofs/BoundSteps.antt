@@ -3,7 +3,7 @@ use Rattle.std.proofs.Common.{◌≡◌, ℕ, ◌+◌, ◌<◌, ◌≤◌, List,
 use Rattle.std.proofs.Common.{false, nat_lt, nat_le, if◌then◌else◌, refl, ap, ◌∙◌, arith, inl, inr}
 use Rattle.std.proofs.lemmas.Bool.{ltb-true, lt-ltb, le-leb, leb-true, cases_lt}
 use Rattle.std.proofs.lemmas.List.Sums.{sum_by-cons}
-use Rattle.rv64_isa.specs.Schedule.{Bound, durable_steps}
+use Rattle.machine_model.specs.Schedule.{Bound, durable_steps}
 use Rattle.run_tracker.specs.links.AccountRepresentation.{AllFrom, AllUpTo, IsAscending, total}
 
 -- ---- Order

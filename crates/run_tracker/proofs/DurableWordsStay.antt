@@ -3,20 +3,21 @@ use Rattle.std.proofs.Common.{◌≡◌, ◌⊎◌, ℕ, ◌/◌, ◌<◌, ◌�
 use Rattle.std.proofs.Common.{Bool, false, cond, nat_lt, inl, inr, refl, ap, sym, subst, ◌∙◌, get_or-set_same, get_or-set_other}
 use Rattle.std.proofs.lemmas.Bool.{cases_eq, cases_lt, cond_both}
 use Rattle.std.proofs.lemmas.List.{set_past}
-use Rattle.ido_base.specs.declared.event.Event.TheVariants.{Step}
-use Rattle.ido_base.specs.declared.event.Reply.TheVariants.{Waits}
+use Rattle.machine_events.specs.declared.event.Event.TheVariants.{Step}
+use Rattle.machine_events.specs.declared.event.Reply.TheVariants.{Waits}
 use Rattle.ido_base.specs.Words.{Word, Entry, word_of, word_at}
-use Rattle.ido_base.specs.Layout.{in_range, aligned, byte_number}
+use Rattle.ido_base.specs.Layout.{aligned, byte_number}
+use Rattle.log_schemes.specs.Layout.{in_range}
 use Rattle.ido_base.specs.Locks.{is_held_by, least_held, least_missing}
 use Rattle.rv64_isa.specs.declared.object.Slot.{Slot}
 use Rattle.rv64_isa.specs.declared.object.Slot.TheVariants.{Row, NoRow}
-use Rattle.rv64_isa.specs.declared.phase.Phase.{Phase}
-use Rattle.rv64_isa.specs.declared.phase.Phase.TheVariants.{Take, Wait, Resume, Run, Done, Ended}
+use Rattle.machine_model.specs.declared.phase.Phase.{Phase}
+use Rattle.machine_model.specs.declared.phase.Phase.TheVariants.{Take, Wait, Resume, Run, Done, Ended}
 use Rattle.rv64_isa.specs.Rows.{Effect, Continues, Loads, Stores, Cleans, Fences, Calls, row, read}
 use Rattle.rv64_isa.specs.Programs.{fetched}
-use Rattle.rv64_isa.specs.Machine.{Hart, World, Outcome, moved, with_holder, access, drain_one, fenced, cleaned, acquired}
-use Rattle.rv64_isa.specs.Machine.{released, ended, called, applied, executed, taken, waited, record_of, taking_from, hart_step}
-use Rattle.rv64_isa.specs.Machine.{run_step, done_if_over, over_after, phase_step, stepped, happens, after_event, reply_to}
+use Rattle.machine_model.specs.Machine.{Hart, World, Outcome, moved, with_holder, access, drain_one, fenced, cleaned, acquired}
+use Rattle.machine_model.specs.Machine.{released, ended, called, applied, executed, taken, waited, record_of, taking_from, hart_step}
+use Rattle.machine_model.specs.Machine.{run_step, done_if_over, over_after, phase_step, stepped, happens, after_event, reply_to}
 use Rattle.run_tracker.specs.links.LifeParts.{is_drained}
 
 abbrev pub SameDurable : (old new : List Word) → Type 0

@@ -4,7 +4,7 @@ use Rattle.std.specs.Prelude.{Vec}
 use Rattle.std.specs.Global.{Global}
 use Rattle.std.proofs.lemmas.List.{map-append, map_more, take-append-drop}
 use Rattle.std.proofs.lemmas.List.Concat.{flat_map-append}
-use Rattle.rv64_isa.specs.Schedule.{first_steps, only_life}
+use Rattle.machine_model.specs.Schedule.{first_steps, only_life}
 use Rattle.run_tracker.specs.declared.account.Account.{Account}
 use Rattle.run_tracker.specs.links.AccountRepresentation.{AccountInv, ends_from}
 use Rattle.run_tracker.specs.links.EarlierLives.{kept_count, lives_in, schedule_in, steps_together}

@@ -3,21 +3,21 @@ use Rattle.std.proofs.Common.{◌≡◌, ℕ, zero, suc, ◌+◌, ◌<◌, ◌�
 use Rattle.std.proofs.Common.{Bool, true, false, cond, if◌then◌else◌, refl, ap, ◌∙◌, arith, inl, length-set}
 use Rattle.std.proofs.lemmas.List.{length-replicate}
 use Rattle.std.proofs.lemmas.List.Sums.{sum_by-cons}
-use Rattle.rv64_isa.proofs.Public.{log_stays, outcome_of}
+use Rattle.machine_model.proofs.Public.{log_stays, outcome_of}
 use Rattle.run_tracker.proofs.LivesEnd.{next_keeps}
-use Rattle.ido_base.specs.declared.log.Log.{Log}
-use Rattle.ido_base.specs.declared.event.Event.{Event}
-use Rattle.ido_base.specs.declared.event.Event.TheVariants.{Step, Evict, Crash, Start}
+use Rattle.log_schemes.specs.declared.log.Log.{Log}
+use Rattle.machine_events.specs.declared.event.Event.{Event}
+use Rattle.machine_events.specs.declared.event.Event.TheVariants.{Step, Evict, Crash, Start}
 use Rattle.ido_base.specs.Words.{Word, word_at, last_position}
 use Rattle.ido_base.specs.Growth.{AreChanged}
-use Rattle.ido_base.specs.Cores.{played, passed_count, point_stores, finished_fences}
-use Rattle.ido_base.proofs.Public.{passed_count-more}
+use Rattle.machine_events.specs.Cores.{played, passed_count, point_stores, finished_fences}
+use Rattle.machine_events.proofs.Public.{passed_count-more}
 use Rattle.rv64_isa.specs.declared.object.Slot.{Slot}
-use Rattle.rv64_isa.specs.Frames.{IsWellFormedWorld}
-use Rattle.rv64_isa.proofs.Public.{steps_touch, evictions_touch}
-use Rattle.rv64_isa.specs.Machine.{World, after_event, after_events, can_start, happens}
-use Rattle.rv64_isa.specs.Schedule.{Steps, next_life, no_steps, with_begun, with_bound, with_step, with_all_kept}
-use Rattle.rv64_isa.specs.Schedule.{steps_after, steps_along, passes_mark, stores_point, finishes_fence}
+use Rattle.machine_model.specs.Frames.{IsWellFormedWorld}
+use Rattle.machine_model.proofs.Public.{steps_touch, evictions_touch}
+use Rattle.machine_model.specs.Machine.{World, after_event, after_events, can_start, happens}
+use Rattle.machine_model.specs.Schedule.{Steps, next_life, no_steps, with_begun, with_bound, with_step, with_all_kept}
+use Rattle.machine_model.specs.Schedule.{steps_after, steps_along, passes_mark, stores_point, finishes_fence}
 use Rattle.run_tracker.specs.links.AccountRepresentation.{AreOrdered, weight, hart_weight, point_word}
 use Rattle.run_tracker.specs.ObjectLives.{LifeConfig, living, ends_at_point}
 use Rattle.run_tracker.specs.links.LifeParts.{IsAmong}

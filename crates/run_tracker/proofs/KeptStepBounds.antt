@@ -1,7 +1,7 @@
 -- What is needed to keep the steps of a hart, and what is so after it.
 use Rattle.std.proofs.Common.{◌≡◌, ℕ, ◌<◌, length, arith}
 use Rattle.std.specs.Vec.{vec_capacity}
-use Rattle.rv64_isa.specs.Schedule.{hart_steps, with_kept}
+use Rattle.machine_model.specs.Schedule.{hart_steps, with_kept}
 use Rattle.ido_machine.specs.declared.machine.Machine.{Machine}
 use Rattle.run_tracker.specs.declared.account.Account.{Account}
 use Rattle.run_tracker.specs.links.AccountRepresentation.{AccountInv, IsAscending, weight}

@@ -1,13 +1,13 @@
 -- A life stands after an event.
 use Rattle.std.proofs.Common.{◌≡◌, ℕ, ◌+◌, ◌<◌, ◌≤◌, ◌^◌, List, [], ◌∷◌, ◌++◌, length}
 use Rattle.std.proofs.Common.{slice_index, Bool, cond, ap, sym, subst, ◌∙◌, arith}
-use Rattle.ido_base.specs.declared.event.Event.{Event}
-use Rattle.ido_base.specs.Cores.{point_stores, finished_fences}
+use Rattle.machine_events.specs.declared.event.Event.{Event}
+use Rattle.machine_events.specs.Cores.{point_stores, finished_fences}
 use Rattle.rv64_isa.specs.declared.object.Slot.{Slot}
-use Rattle.rv64_isa.specs.Executables.{node_marks}
-use Rattle.rv64_isa.proofs.Public.{queues_stand}
-use Rattle.rv64_isa.specs.Machine.{World, after_event, can_start}
-use Rattle.rv64_isa.specs.Schedule.{Steps, steps_after, stores_point, finishes_fence}
+use Rattle.machine_model.specs.Executables.{node_marks}
+use Rattle.machine_model.proofs.Public.{queues_stand}
+use Rattle.machine_model.specs.Machine.{World, after_event, can_start}
+use Rattle.machine_model.specs.Schedule.{Steps, steps_after, stores_point, finishes_fence}
 use Rattle.ido_machine.specs.Machines.{RepresentsMachine, log_by, program_in}
 use Rattle.run_tracker.specs.declared.life.Life.TheInside.{Inside}
 use Rattle.run_tracker.specs.links.AccountRepresentation.{AccountInv, ends_then}

@@ -4,14 +4,14 @@ use Rattle.std.proofs.Common.{slice_get, slice_index_or, Some, ap, sym, subst, â
 use Rattle.std.specs.Prelude.{Vec}
 use Rattle.std.specs.Global.{Global}
 use Rattle.std.proofs.lemmas.List.{length-replicate}
-use Rattle.ido_base.specs.declared.event.Event.{Event}
-use Rattle.ido_base.specs.declared.event.Event.TheVariants.{Step}
-use Rattle.ido_base.specs.Cores.{point_stores, finished_fences}
-use Rattle.rv64_isa.specs.declared.phase.Phase.TheVariants.{Run}
-use Rattle.rv64_isa.specs.Executables.{node_marks}
-use Rattle.rv64_isa.specs.Frames.{IsWellFormedWorld}
-use Rattle.rv64_isa.specs.Machine.{Hart, World, with_hart}
-use Rattle.rv64_isa.specs.Schedule.{Steps}
+use Rattle.machine_events.specs.declared.event.Event.{Event}
+use Rattle.machine_events.specs.declared.event.Event.TheVariants.{Step}
+use Rattle.machine_events.specs.Cores.{point_stores, finished_fences}
+use Rattle.machine_model.specs.declared.phase.Phase.TheVariants.{Run}
+use Rattle.machine_model.specs.Executables.{node_marks}
+use Rattle.machine_model.specs.Frames.{IsWellFormedWorld}
+use Rattle.machine_model.specs.Machine.{Hart, World, with_hart}
+use Rattle.machine_model.specs.Schedule.{Steps}
 use Rattle.hart_core.specs.declared.local.LocalState.{LocalState}
 use Rattle.hart_core.specs.LocalSteps.{placed_code, local_run}
 use Rattle.ido_machine.specs.Harts.{local_state_of, with_local_state}

@@ -3,15 +3,15 @@ use Rattle.std.proofs.Common.{◌≡◌, ℕ, ◌+◌, ◌≤◌, List, ◌++◌
 use Rattle.std.specs.Prelude.{Vec}
 use Rattle.std.specs.Global.{Global}
 use Rattle.std.specs.Vec.{vec_capacity, vec_len}
-use Rattle.ido_base.specs.declared.log.Log.{Log}
-use Rattle.ido_base.specs.declared.event.Event.{Event}
-use Rattle.ido_base.specs.declared.event.Event.TheVariants.{Step, Evict, Crash, Start}
-use Rattle.ido_base.specs.Cores.{IsValid, IsValidNow, point_stores, finished_fences}
+use Rattle.log_schemes.specs.declared.log.Log.{Log}
+use Rattle.machine_events.specs.declared.event.Event.{Event}
+use Rattle.machine_events.specs.declared.event.Event.TheVariants.{Step, Evict, Crash, Start}
+use Rattle.machine_events.specs.Cores.{IsValid, IsValidNow, point_stores, finished_fences}
 use Rattle.rv64_isa.specs.declared.object.Slot.{Slot}
-use Rattle.rv64_isa.specs.Executables.{node_marks}
-use Rattle.rv64_isa.specs.Frames.{IsWellFormedWorld}
-use Rattle.rv64_isa.specs.Machine.{World, IsEviction, IsValidAt, can_start}
-use Rattle.rv64_isa.specs.Schedule.{Steps}
+use Rattle.machine_model.specs.Executables.{node_marks}
+use Rattle.machine_model.specs.Frames.{IsWellFormedWorld}
+use Rattle.machine_model.specs.Machine.{World, IsEviction, IsValidAt, can_start}
+use Rattle.machine_model.specs.Schedule.{Steps}
 use Rattle.ido_machine.specs.declared.machine.Machine.{Machine}
 use Rattle.ido_machine.specs.Machines.{RepresentsMachine, log_by, program_in, events_of}
 use Rattle.run_tracker.specs.declared.account.Account.{Account}

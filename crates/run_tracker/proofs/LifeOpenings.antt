@@ -1,15 +1,16 @@
 -- How lives begin.
 use Rattle.std.proofs.Common.{Vec, Global, ◌≡◌, ℕ, ◌/◌, List, [], length, Some, ap, sym, subst, ◌∙◌}
 use Rattle.std.proofs.lemmas.List.{length-map}
-use Rattle.ido_base.specs.declared.log.Log.{Log}
+use Rattle.log_schemes.specs.declared.log.Log.{Log}
 use Rattle.ido_base.specs.Words.{word_of}
-use Rattle.ido_base.specs.Layout.{word_count, spread_words}
-use Rattle.rv64_isa.specs.declared.object.Object.{Object}
+use Rattle.ido_base.specs.Layout.{spread_words}
+use Rattle.log_schemes.specs.Layout.{word_count}
+use Rattle.machine_model.specs.declared.object.Object.{Object}
 use Rattle.rv64_isa.specs.declared.object.Slot.{Slot}
-use Rattle.rv64_isa.specs.Frames.{IsWellFormedWorld}
-use Rattle.rv64_isa.proofs.Public.{crashes_simulate}
-use Rattle.rv64_isa.specs.Programs.{program_of}
-use Rattle.rv64_isa.specs.Machine.{after_crash_of, machine_from}
+use Rattle.machine_model.specs.Frames.{IsWellFormedWorld}
+use Rattle.machine_model.proofs.Public.{crashes_simulate}
+use Rattle.machine_model.specs.Objects.{program_of}
+use Rattle.machine_model.specs.Machine.{after_crash_of, machine_from}
 use Rattle.ido_machine.specs.declared.machine.Machine.{Machine}
 use Rattle.ido_machine.specs.Machines.{RepresentsMachine, log_by, program_in}
 use Rattle.run_tracker.specs.links.LifeRepresentation.{opening_by}

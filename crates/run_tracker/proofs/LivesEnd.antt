@@ -3,12 +3,12 @@ use Rattle.std.proofs.Common.{◌≡◌, refl, inl, inr, ℕ, zero, suc, ◌+◌
 use Rattle.std.proofs.Common.{append-nil, append_assoc, length-append, Bool, true, false, flat_map, Some}
 use Rattle.std.proofs.Math.Seq.{take-append_seam}
 use Rattle.std.specs.Prelude.{slice_get, slice_index, slice_index_or, if◌then◌else◌}
-use Rattle.ido_base.specs.declared.event.Event.{Event}
-use Rattle.ido_base.specs.declared.event.Event.TheVariants.{Step, Evict, Crash, Start}
+use Rattle.machine_events.specs.declared.event.Event.{Event}
+use Rattle.machine_events.specs.declared.event.Event.TheVariants.{Step, Evict, Crash, Start}
 use Rattle.rv64_isa.specs.declared.object.Slot.{Slot}
-use Rattle.rv64_isa.specs.Machine.{World, IsValidAt, can_start}
-use Rattle.rv64_isa.specs.Schedule.{Steps, next_life, schedules, steps_after}
-use Rattle.rv64_isa.proofs.Public.{event_earlier}
+use Rattle.machine_model.specs.Machine.{World, IsValidAt, can_start}
+use Rattle.machine_model.specs.Schedule.{Steps, next_life, schedules, steps_after}
+use Rattle.machine_model.proofs.Public.{event_earlier}
 use Rattle.run_tracker.specs.declared.account.Account.{Account}
 use Rattle.run_tracker.specs.links.AccountRepresentation.{AccountInv, all_kept, ends_from, ends_then, life_place, without_open}
 use Rattle.run_tracker.specs.links.LifeParts.{is_start}

@@ -2,19 +2,19 @@
 use Rattle.std.proofs.Common.{◌≡◌, ◌⊎◌, ℕ, List, [], length, slice_get, slice_index_or, Option, Some, None, Bool}
 use Rattle.std.proofs.Common.{true, false, not, ◌&&◌, if◌then◌else◌, refl, ap, sym, subst, ◌∙◌, inl, inr}
 use Rattle.std.proofs.lemmas.Bool.{cases_eq}
-use Rattle.ido_base.specs.declared.event.Event.TheVariants.{Step}
-use Rattle.ido_base.specs.declared.event.Reply.TheVariants.{Moved}
+use Rattle.machine_events.specs.declared.event.Event.TheVariants.{Step}
+use Rattle.machine_events.specs.declared.event.Reply.TheVariants.{Moved}
 use Rattle.ido_base.specs.Words.{word_at, last_position}
 use Rattle.ido_base.specs.Locks.{holds_none}
 use Rattle.rv64_isa.specs.declared.object.Slot.{Slot}
 use Rattle.rv64_isa.specs.declared.object.Slot.TheVariants.{Row, NoRow}
-use Rattle.rv64_isa.specs.declared.phase.Phase.TheVariants.{Run, Done}
+use Rattle.machine_model.specs.declared.phase.Phase.TheVariants.{Run, Done}
 use Rattle.rv64_isa.specs.Rows.{Effect, Continues, Loads, Stores, Cleans, Fences, Calls, row}
 use Rattle.rv64_isa.specs.Programs.{fetched}
-use Rattle.rv64_isa.specs.Machine.{Hart, World, Outcome, happens, stepped, phase_step, run_step, hart_step, executed}
-use Rattle.rv64_isa.specs.Machine.{applied, moved, with_hart, done_if_over, over_after, after_event, reply_to}
-use Rattle.rv64_isa.specs.Schedule.{Steps, completes, completing, has_moved, is_fence, is_mark, is_point_store, is_running}
-use Rattle.rv64_isa.specs.Schedule.{finishes_fence, stores_point, steps_after, with_step, with_all_kept}
+use Rattle.machine_model.specs.Machine.{Hart, World, Outcome, happens, stepped, phase_step, run_step, hart_step, executed}
+use Rattle.machine_model.specs.Machine.{applied, moved, with_hart, done_if_over, over_after, after_event, reply_to}
+use Rattle.machine_model.specs.Schedule.{Steps, completes, completing, has_moved, is_fence, is_mark, is_point_store, is_running}
+use Rattle.machine_model.specs.Schedule.{finishes_fence, stores_point, steps_after, with_step, with_all_kept}
 use Rattle.hart_core.specs.declared.local.LocalState.{LocalState}
 use Rattle.hart_core.specs.declared.local.LocalWrite.{LocalWrite}
 use Rattle.hart_core.specs.LocalSteps.{placed_code, after_write, continued, executed_locally, local_step}

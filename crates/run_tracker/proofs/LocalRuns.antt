@@ -4,15 +4,15 @@ use Rattle.std.proofs.Common.{replicate, slice_get, slice_index_or, Option, Some
 use Rattle.std.proofs.Common.{Bool, true, false, cond, refl, ap, sym, subst, ◌∙◌, arith, inl, inr}
 use Rattle.std.proofs.lemmas.Bool.{cases_eq}
 use Rattle.std.proofs.lemmas.List.{append-nil, append_assoc, set-set, replicate-append-replicate}
-use Rattle.ido_base.specs.declared.event.Event.{Event}
-use Rattle.ido_base.specs.declared.event.Event.TheVariants.{Step}
-use Rattle.ido_base.specs.declared.event.Reply.TheVariants.{Moved}
-use Rattle.ido_base.specs.Cores.{point_stores, finished_fences, EachMoves}
-use Rattle.rv64_isa.specs.declared.phase.Phase.TheVariants.{Run}
-use Rattle.rv64_isa.specs.Frames.{IsWellFormedWorld}
-use Rattle.rv64_isa.specs.Machine.{Hart, World, after_event, after_events, durable_point, reply_to, with_hart}
-use Rattle.rv64_isa.specs.Schedule.{Steps, first_steps, is_mark, steps_along}
-use Rattle.rv64_isa.proofs.Public.{queues_stand}
+use Rattle.machine_events.specs.declared.event.Event.{Event}
+use Rattle.machine_events.specs.declared.event.Event.TheVariants.{Step}
+use Rattle.machine_events.specs.declared.event.Reply.TheVariants.{Moved}
+use Rattle.machine_events.specs.Cores.{point_stores, finished_fences, EachMoves}
+use Rattle.machine_model.specs.declared.phase.Phase.TheVariants.{Run}
+use Rattle.machine_model.specs.Frames.{IsWellFormedWorld}
+use Rattle.machine_model.specs.Machine.{Hart, World, after_event, after_events, durable_point, reply_to, with_hart}
+use Rattle.machine_model.specs.Schedule.{Steps, first_steps, is_mark, steps_along}
+use Rattle.machine_model.proofs.Public.{queues_stand}
 use Rattle.hart_core.specs.declared.local.LocalState.{LocalState}
 use Rattle.hart_core.specs.LocalSteps.{PlacedCode, placed_code, local_run, local_step, then_locally}
 use Rattle.hart_core.proofs.Public.{found_set, set_found}
@@ -21,7 +21,7 @@ use Rattle.run_tracker.specs.links.AccountRepresentation.{AreOpen}
 use Rattle.run_tracker.specs.links.LocalRepresentation.{marks_at, marks_passed, with_more_begun}
 use Rattle.run_tracker.specs.LocalRuns.{with_steps}
 use Rattle.run_tracker.specs.ObjectLives.{Course, LifeConfig, ended_sections, is_stopped, living, opening_of, steps_in, world_of}
-use Rattle.rv64_isa.specs.Machine.{has_stopped}
+use Rattle.machine_model.specs.Machine.{has_stopped}
 use Rattle.run_tracker.proofs.DurablePoints.{none_at_point}
 use Rattle.run_tracker.proofs.Events.{after_more, along_more, begun_if, fences_more, played_is, points_more, sections_more}
 use Rattle.run_tracker.proofs.MoreBegun.{open-more}

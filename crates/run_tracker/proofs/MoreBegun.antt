@@ -3,9 +3,9 @@ use Rattle.std.proofs.Common.{◌≡◌, ℕ, zero, suc, ◌+◌, ◌<◌, ◌�
 use Rattle.std.proofs.Common.{true, false, refl, ap, sym, subst, ◌∙◌, arith, length-set, get_or-set_same}
 use Rattle.std.proofs.lemmas.List.{set-get_or, set-set}
 use Rattle.std.proofs.lemmas.List.Sums.{sum_by-set}
-use Rattle.ido_base.specs.declared.log.Log.{Log}
+use Rattle.log_schemes.specs.declared.log.Log.{Log}
 use Rattle.ido_base.specs.Words.{Word}
-use Rattle.rv64_isa.specs.Schedule.{Steps, HartSteps, hart_steps, no_steps}
+use Rattle.machine_model.specs.Schedule.{Steps, HartSteps, hart_steps, no_steps}
 use Rattle.run_tracker.specs.declared.account.PointStore.{PointStore}
 use Rattle.run_tracker.specs.declared.account.OpenSteps.{OpenSteps}
 use Rattle.run_tracker.specs.declared.account.Account.{Account}

@@ -2,19 +2,20 @@
 use Rattle.std.proofs.Common.{◌≡◌, ◌⊎◌, ℕ, ◌+◌, ◌/◌, ◌<◌, ◌==◌, List, [], ◌∷◌, length, length-append, slice_set, slice_get, Option, Some, None}
 use Rattle.std.proofs.Common.{Bool, true, false, not, cond, nat_lt, inl, inr, refl, ap, sym, subst, ◌∙◌, arith, get_or-set_same, get_or-set_other}
 use Rattle.std.proofs.lemmas.Bool.{cases_eq, cond_both, eq-eqb, ne_eqb}
-use Rattle.ido_base.specs.declared.event.Event.TheVariants.{Step}
+use Rattle.machine_events.specs.declared.event.Event.TheVariants.{Step}
 use Rattle.ido_base.specs.Words.{Word, Entry, word_of, word_at, last_position, with_value}
-use Rattle.ido_base.specs.Layout.{in_range, aligned, byte_number}
+use Rattle.ido_base.specs.Layout.{aligned, byte_number}
+use Rattle.log_schemes.specs.Layout.{in_range}
 use Rattle.ido_base.specs.Locks.{is_held_by, least_held}
 use Rattle.rv64_isa.specs.declared.object.Slot.{Slot}
 use Rattle.rv64_isa.specs.declared.object.Slot.TheVariants.{Row, NoRow}
-use Rattle.rv64_isa.specs.declared.phase.Phase.{Phase}
-use Rattle.rv64_isa.specs.declared.phase.Phase.TheVariants.{Take, Wait, Resume, Run, Done, Ended}
+use Rattle.machine_model.specs.declared.phase.Phase.{Phase}
+use Rattle.machine_model.specs.declared.phase.Phase.TheVariants.{Take, Wait, Resume, Run, Done, Ended}
 use Rattle.rv64_isa.specs.Rows.{Effect, Continues, Loads, Stores, Cleans, Fences, Calls, row, read}
 use Rattle.rv64_isa.specs.Programs.{fetched}
-use Rattle.rv64_isa.specs.Machine.{Hart, World, Outcome, access, drain_one, fenced, cleaned, acquired, released, ended, called}
-use Rattle.rv64_isa.specs.Machine.{applied, executed, hart_step, run_step, phase_step, stepped, happens, after_event, reply_to}
-use Rattle.rv64_isa.specs.Schedule.{completing, has_moved, is_point_store, is_running, stores_point}
+use Rattle.machine_model.specs.Machine.{Hart, World, Outcome, access, drain_one, fenced, cleaned, acquired, released, ended, called}
+use Rattle.machine_model.specs.Machine.{applied, executed, hart_step, run_step, phase_step, stepped, happens, after_event, reply_to}
+use Rattle.machine_model.specs.Schedule.{completing, has_moved, is_point_store, is_running, stores_point}
 use Rattle.run_tracker.specs.links.AccountRepresentation.{point_word}
 use Rattle.run_tracker.proofs.DurableWordsStay.{settles}
 use Rattle.run_tracker.proofs.SignObservations.{completes_one, one_moved, slot_tells}

@@ -1,10 +1,11 @@
 -- Where points stand.
 use Rattle.std.proofs.Common.{◌≡◌, ℕ, suc, ◌≤◌, ◌+◌, ◌-◌, ◌*◌, ◌/◌, Bool, true, false, nat_lt, if◌then◌else◌, refl, ap, ◌∙◌, arith, ◌<◌, length, sym, subst}
 use Rattle.std.proofs.lemmas.Bool.{ltb-true}
-use Rattle.ido_base.specs.declared.log.Log.TheVariants.{V1, V2}
-use Rattle.ido_base.specs.declared.log.Log.{Log}
-use Rattle.ido_base.specs.Layout.{logs_base, variables_base, point_at, byte_number, log_lines, line_count, word_count}
-use Rattle.rv64_isa.specs.Machine.{World}
+use Rattle.log_schemes.specs.declared.log.Log.TheVariants.{V1, V2}
+use Rattle.log_schemes.specs.declared.log.Log.{Log}
+use Rattle.ido_base.specs.Layout.{logs_base, variables_base, byte_number}
+use Rattle.log_schemes.specs.Layout.{point_at, log_lines, line_count, word_count}
+use Rattle.machine_model.specs.Machine.{World}
 use Rattle.ido_machine.specs.declared.machine.Machine.{Machine}
 use Rattle.ido_machine.specs.Machines.{RepresentsMachine, program_in, log_by}
 use Rattle.run_tracker.specs.links.AccountRepresentation.{point_word}

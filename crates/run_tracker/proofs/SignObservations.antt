@@ -3,20 +3,20 @@ use Rattle.std.proofs.Common.{◌≡◌, ◌⊎◌, ℕ, zero, suc, ◌-◌, ◌
 use Rattle.std.proofs.Common.{Bool, true, false, nat_le, ◌==◌, ◌&&◌, if◌then◌else◌, refl, ap, sym, subst, ◌∙◌, arith, inl, inr}
 use Rattle.std.specs.List.{list_any}
 use Rattle.std.proofs.lemmas.Bool.{cases_eq, eq-eqb, eqb-true, le-leb, leb-true, and_parts}
-use Rattle.ido_base.specs.declared.log.Log.{Log}
-use Rattle.ido_base.specs.declared.event.Event.TheVariants.{Step}
-use Rattle.ido_base.specs.declared.event.Reply.{Reply}
+use Rattle.log_schemes.specs.declared.log.Log.{Log}
+use Rattle.machine_events.specs.declared.event.Event.TheVariants.{Step}
+use Rattle.machine_events.specs.declared.event.Reply.{Reply}
 use Rattle.rv64_isa.specs.declared.instr.Instr.{Instr}
 use Rattle.rv64_isa.specs.declared.instr.Instr.TheVariants.{Lui, Auipc, Jal, Jalr, Branch, Load, Store, OpImmediate}
 use Rattle.rv64_isa.specs.declared.instr.Instr.TheVariants.{ShiftImmediate, ShiftImmediateWord, Op, CboClean, Fence, Ecall}
 use Rattle.rv64_isa.specs.declared.object.Slot.{Slot}
 use Rattle.rv64_isa.specs.declared.object.Slot.TheVariants.{Row, NoRow}
-use Rattle.rv64_isa.specs.declared.phase.Phase.{Phase}
-use Rattle.rv64_isa.specs.declared.phase.Phase.TheVariants.{Take, Wait, Resume, Run, Done, Ended}
+use Rattle.machine_model.specs.declared.phase.Phase.{Phase}
+use Rattle.machine_model.specs.declared.phase.Phase.TheVariants.{Take, Wait, Resume, Run, Done, Ended}
 use Rattle.rv64_isa.specs.Rows.{Effect, row}
 use Rattle.rv64_isa.specs.Programs.{fetched, code_of, code_start}
-use Rattle.rv64_isa.specs.Machine.{Hart, World, reply_to, happens, stepped, phase_step, executed}
-use Rattle.rv64_isa.specs.Schedule.{completes, completing, effect_at, has_moved, is_fence, is_point_store, is_running, passes_mark, is_mark}
+use Rattle.machine_model.specs.Machine.{Hart, World, reply_to, happens, stepped, phase_step, executed}
+use Rattle.machine_model.specs.Schedule.{completes, completing, effect_at, has_moved, is_fence, is_point_store, is_running, passes_mark, is_mark}
 use Rattle.hart_core.specs.LocalSteps.{PlacedCode, placed_code, fetched_in}
 use Rattle.run_tracker.specs.declared.signs.Entry.{Entry}
 use Rattle.run_tracker.specs.declared.signs.Sign.{Sign}

@@ -2,9 +2,9 @@
 use Rattle.std.proofs.Common.{◌≡◌, ℕ, zero, suc, ◌+◌, ◌<◌, ◌≤◌, List, [], ◌∷◌, ◌++◌, length, replicate, flat_map, refl, ◌∙◌, arith, length-set, length-append}
 use Rattle.std.proofs.lemmas.List.{length-replicate}
 use Rattle.std.proofs.lemmas.List.Sums.{sum_by-set, sum_by_push}
-use Rattle.ido_base.specs.declared.log.Log.{Log}
+use Rattle.log_schemes.specs.declared.log.Log.{Log}
 use Rattle.ido_base.specs.Words.{Word, word_at}
-use Rattle.rv64_isa.specs.Schedule.{Steps, Bound, hart_steps, no_steps, with_begun, with_bound, with_kept, with_all_kept, durable_steps}
+use Rattle.machine_model.specs.Schedule.{Steps, Bound, hart_steps, no_steps, with_begun, with_bound, with_kept, with_all_kept, durable_steps}
 use Rattle.run_tracker.specs.links.AccountRepresentation.{hart_weight, weight, point_word}
 use Rattle.run_tracker.proofs.BoundSteps.{later, total_split}
 

@@ -2,16 +2,16 @@
 use Rattle.std.proofs.Common.{◌≡◌, ◌⊎◌, ℕ, ◌+◌, ◌<◌, List, length, slice_index_or, []}
 use Rattle.std.proofs.Common.{Some, None, Bool, true, false, not, cond, ◌==◌, ◌||◌, refl, ap, sym, subst, ◌∙◌, arith, inl, inr}
 use Rattle.std.proofs.lemmas.Bool.{cases_eq, cases_Bool}
-use Rattle.ido_base.specs.declared.log.Log.{Log}
-use Rattle.ido_base.specs.declared.event.Event.TheVariants.{Step}
-use Rattle.ido_base.specs.declared.event.Reply.{Reply}
+use Rattle.log_schemes.specs.declared.log.Log.{Log}
+use Rattle.machine_events.specs.declared.event.Event.TheVariants.{Step}
+use Rattle.machine_events.specs.declared.event.Reply.{Reply}
 use Rattle.ido_base.specs.Words.{word_at, last_position}
 use Rattle.rv64_isa.specs.declared.object.Slot.{Slot}
 use Rattle.rv64_isa.specs.Rows.{Effect}
 use Rattle.rv64_isa.specs.Programs.{fetched, code_of, code_start}
-use Rattle.rv64_isa.specs.Machine.{World, after_event, reply_to}
-use Rattle.rv64_isa.specs.Schedule.{Steps, completes, completing, has_moved, is_fence, is_point_store, is_running}
-use Rattle.rv64_isa.specs.Schedule.{passes_mark, stores_point, finishes_fence, steps_after, with_step, with_all_kept}
+use Rattle.machine_model.specs.Machine.{World, after_event, reply_to}
+use Rattle.machine_model.specs.Schedule.{Steps, completes, completing, has_moved, is_fence, is_point_store, is_running}
+use Rattle.machine_model.specs.Schedule.{passes_mark, stores_point, finishes_fence, steps_after, with_step, with_all_kept}
 use Rattle.ido_machine.specs.declared.machine.Machine.{Machine}
 use Rattle.run_tracker.specs.declared.counts.Counts.{Counts}
 use Rattle.run_tracker.specs.declared.signs.Sign.{Sign}

@@ -4,16 +4,16 @@ use Rattle.std.specs.Prelude.{if◌then◌else◌}
 use Rattle.std.proofs.Common.{Bool, true, false, inl, inr, refl, ap, sym, subst, ◌∙◌, arith, get_or-set_same, get_or-set_other}
 use Rattle.std.proofs.lemmas.Bool.{cases_eq, cases_lt}
 use Rattle.std.proofs.lemmas.List.{append-nil, set-get_or, get_or_past}
-use Rattle.rv64_isa.specs.Frames.{IsWellFormedWorld}
-use Rattle.rv64_isa.proofs.Public.{outcome_of, log_stays}
-use Rattle.ido_base.specs.declared.log.Log.{Log}
-use Rattle.ido_base.specs.declared.event.Event.{Event}
-use Rattle.ido_base.specs.declared.event.Event.TheVariants.{Step, Evict, Crash, Start}
+use Rattle.machine_model.specs.Frames.{IsWellFormedWorld}
+use Rattle.machine_model.proofs.Public.{outcome_of, log_stays}
+use Rattle.log_schemes.specs.declared.log.Log.{Log}
+use Rattle.machine_events.specs.declared.event.Event.{Event}
+use Rattle.machine_events.specs.declared.event.Event.TheVariants.{Step, Evict, Crash, Start}
 use Rattle.ido_base.specs.Words.{Word, word_at}
 use Rattle.rv64_isa.specs.declared.object.Slot.{Slot}
-use Rattle.rv64_isa.specs.Machine.{World, after_event, can_start, happens}
-use Rattle.rv64_isa.specs.Schedule.{Steps, HartSteps, Bound, hart_steps, next_life, no_steps, with_kept, with_all_kept}
-use Rattle.rv64_isa.specs.Schedule.{with_step, without, durable_steps, steps_after, passes_mark, stores_point}
+use Rattle.machine_model.specs.Machine.{World, after_event, can_start, happens}
+use Rattle.machine_model.specs.Schedule.{Steps, HartSteps, Bound, hart_steps, next_life, no_steps, with_kept, with_all_kept}
+use Rattle.machine_model.specs.Schedule.{with_step, without, durable_steps, steps_after, passes_mark, stores_point}
 use Rattle.run_tracker.specs.links.AccountRepresentation.{AllFrom, AreOpen, point_word}
 use Rattle.run_tracker.proofs.BoundSteps.{later, later_yes, later_no, none_durable, all_later, from_push}
 use Rattle.run_tracker.proofs.DurableWordsStay.{SameDurable}

@@ -1,7 +1,7 @@
 -- Harts that have stopped.
 use Rattle.std.proofs.Common.{◌≡◌, refl, ℕ, zero, suc, List, [], ◌∷◌, Some, Bool, true, false, ◌&&◌, ap, ◌∙◌}
 use Rattle.std.specs.Prelude.{slice_get}
-use Rattle.rv64_isa.specs.Machine.{Hart, has_stopped, have_stopped}
+use Rattle.machine_model.specs.Machine.{Hart, has_stopped, have_stopped}
 
 -- each of them has
 pub all_stopped : (harts : List Hart) → ((h : ℕ) (hart : Hart) → slice_get harts h ≡ Some hart → has_stopped hart.phase ≡ true) → have_stopped harts ≡ true

@@ -1,9 +1,9 @@
 -- What runs ahead of a hart of a life: instructions that touch nothing but its registers and its pc, apart from the life.
 use Rattle.std.specs.Prelude.{◌≡◌, ℕ, ◌+◌, ◌-◌, ◌^◌, List, [], ◌++◌, slice_index_or, replicate, Option, is_some, Bool, nat_lt, ◌&&◌}
-use Rattle.ido_base.specs.declared.event.Event.TheVariants.{Step}
-use Rattle.rv64_isa.specs.declared.phase.Phase.{Phase}
-use Rattle.rv64_isa.specs.Machine.{Hart}
-use Rattle.rv64_isa.specs.Schedule.{is_running}
+use Rattle.machine_events.specs.declared.event.Event.TheVariants.{Step}
+use Rattle.machine_model.specs.declared.phase.Phase.{Phase}
+use Rattle.machine_model.specs.Machine.{Hart}
+use Rattle.machine_model.specs.Schedule.{is_running}
 use Rattle.hart_core.specs.declared.local.LocalState.{LocalState}
 use Rattle.hart_core.specs.LocalSteps.{PlacedCode, placed_code, local_run, then_locally}
 use Rattle.ido_machine.specs.Harts.{local_state_of}

@@ -1,9 +1,9 @@
 //! The account of begun and kept steps.
 ghost use Rattle.std.specs.Prelude.{◌≡◌, ◌+◌, ◌<◌, ◌≤◌, ◌++◌, ◌^◌, ℕ, List, drop, filter, nat_lt, length, replicate, sum_by, if◌then◌else◌, IfOk};
 ghost use Rattle.std.specs.Vec.{vec_capacity, vec_len};
-ghost use Rattle.ido_base.specs.declared.log.Log.{Log};
+ghost use Rattle.log_schemes.specs.declared.log.Log.{Log};
 ghost use Rattle.ido_base.specs.Words.{Word, word_at};
-ghost use Rattle.rv64_isa.specs.Schedule.{Steps, first_steps, only_life, no_steps, with_begun, with_bound, with_kept, durable_steps};
+ghost use Rattle.machine_model.specs.Schedule.{Steps, first_steps, only_life, no_steps, with_begun, with_bound, with_kept, durable_steps};
 ghost use Rattle.run_tracker.specs.links.AccountRepresentation.{AccountInv, IsAscending, open_at, bound_in, bound_at, total, point_word, without_open};
 ghost use Rattle.run_tracker.specs.links.LocalRepresentation.{with_more_begun};
 

@@ -1,7 +1,7 @@
 //! What is kept when a life begins: the schedules of the lives before it, and its own.
 ghost use Rattle.std.specs.Prelude.{◌≡◌, ◌+◌, ◌<◌, ◌^◌, ◌++◌, length, map, IfOk, OnOk};
 ghost use Rattle.std.specs.Vec.{vec_capacity, vec_len};
-ghost use Rattle.rv64_isa.specs.Schedule.{first_steps};
+ghost use Rattle.machine_model.specs.Schedule.{first_steps};
 ghost use Rattle.run_tracker.specs.links.AccountRepresentation.{AccountInv, ends_from};
 ghost use Rattle.run_tracker.specs.links.EarlierLives.{kept_count, lives_in, schedule_in, steps_together};
 

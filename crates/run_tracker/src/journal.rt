@@ -1,11 +1,11 @@
 //! The journal of a life.
 ghost use Rattle.std.specs.Prelude.{◌≡◌, ◌+◌, ◌<◌, ◌≤◌, ◌^◌, ◌∷◌, ◌++◌, [], flat_map, length, replicate, IfOk, OnOk};
 ghost use Rattle.std.specs.Vec.{vec_capacity, vec_len};
-ghost use Rattle.ido_base.specs.declared.event.Event.TheVariants.{Step};
+ghost use Rattle.machine_events.specs.declared.event.Event.TheVariants.{Step};
 ghost use Rattle.run_tracker.specs.links.Journals.{events_in};
 
-use ido_base::event::Event;
 use ido_base::memory::OutOfMemory;
+use machine_events::event::Event;
 use std::alloc::Global;
 use std::marker::Model;
 

@@ -4,14 +4,14 @@ ghost use Rattle.std.specs.Prelude.{if◌then◌else◌, IfOk, IsTrue, ◌↔◌
 ghost use Rattle.std.specs.Bool.{OnTrue};
 ghost use Rattle.std.specs.Vec.{vec_capacity, vec_len};
 ghost use Rattle.ido_base.specs.Words.{word_at, live_value, durable_value};
-ghost use Rattle.ido_base.specs.Layout.{line_count, log_words};
-ghost use Rattle.ido_base.specs.Cores.{point_stores, finished_fences, least_enabled, EachMoves};
-ghost use Rattle.rv64_isa.specs.Machine.{Hart, World, can_start, has_stopped, have_stopped, reply_to, numbers_from};
+ghost use Rattle.log_schemes.specs.Layout.{line_count, log_words};
+ghost use Rattle.machine_events.specs.Cores.{point_stores, finished_fences, least_enabled, EachMoves};
+ghost use Rattle.machine_model.specs.Machine.{Hart, World, can_start, has_stopped, have_stopped, reply_to, numbers_from};
 ghost use Rattle.ido_machine.specs.Machines.{RepresentsMachine, program_in, log_by, events_of};
-ghost use Rattle.rv64_isa.specs.Programs.{program_of};
-ghost use Rattle.rv64_isa.specs.Frames.{IsWellFormedWorld};
-ghost use Rattle.rv64_isa.specs.Schedule.{schedules};
-ghost use Rattle.rv64_isa.specs.Machine.{is_settled, is_settled_hart};
+ghost use Rattle.machine_model.specs.Objects.{program_of};
+ghost use Rattle.machine_model.specs.Frames.{IsWellFormedWorld};
+ghost use Rattle.machine_model.specs.Schedule.{schedules};
+ghost use Rattle.machine_model.specs.Machine.{is_settled, is_settled_hart};
 ghost use Rattle.hart_core.specs.Objects.{IsWithinLimits};
 ghost use Rattle.run_tracker.specs.ObjectLives.{Course, new_life, life_at, life_from, with_event, world_of, steps_in, left_words, variable_words_in};
 ghost use Rattle.run_tracker.specs.ObjectLives.{IsValidIn, LifeConfig, ended_sections, is_stopped, living, opening_of};
@@ -30,13 +30,14 @@ use crate::points::{durable_point, live_point};
 use crate::sections::Sections;
 use crate::signs::{SignTable, copy_of, tables_of};
 use crate::stepping::make;
-use ido_base::event::{Event, Reply};
 use ido_base::limits::VARIABLE_WORDS;
-use ido_base::machine::Core;
 use ido_base::memory::OutOfMemory;
 use ido_machine::machine::Machine;
-use rv64_isa::object::{Marks, Object};
-use rv64_isa::phase::Phase;
+use machine_events::event::{Event, Reply};
+use machine_events::machine::Core;
+use machine_model::object::Object;
+use machine_model::phase::Phase;
+use rv64_isa::object::Marks;
 use std::alloc::Global;
 use std::marker::Model;
 
@@ -508,7 +509,7 @@ impl Life {
 
 impl Core for Life {
     ghost use Rattle.std.specs.Prelude.{◌-◌, length};
-    ghost use Rattle.rv64_isa.specs.Machine.{IsEviction};
+    ghost use Rattle.machine_model.specs.Machine.{IsEviction};
     ghost use Rattle.run_tracker.specs.ObjectLives.{LifeConfig, living, opening_of};
     ghost use Rattle.run_tracker.specs.LocalRuns.{IsLocalOf};
 

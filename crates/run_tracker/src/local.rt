@@ -1,6 +1,6 @@
 //! What runs ahead of a hart of a life.
 ghost use Rattle.std.specs.Prelude.{◌≡◌, ◌<◌, ◌≤◌, Some, if◌then◌else◌};
-ghost use Rattle.rv64_isa.specs.declared.phase.Phase.TheVariants.{Run};
+ghost use Rattle.machine_model.specs.declared.phase.Phase.TheVariants.{Run};
 ghost use Rattle.run_tracker.specs.LocalRuns.{LocalCourse, goes_ahead, one_ahead, state_in};
 ghost use Rattle.run_tracker.specs.links.LocalRepresentation.{marks_passed};
 ghost use Rattle.run_tracker.specs.links.SignTables.{placed_in, slots_in, IsTableOf};
@@ -8,7 +8,7 @@ ghost use Rattle.run_tracker.specs.links.SignTables.{placed_in, slots_in, IsTabl
 use crate::signs::SignTable;
 use crate::stepping::is_running;
 use hart_core::local::LocalState;
-use rv64_isa::phase::Phase;
+use machine_model::phase::Phase;
 use std::marker::Model;
 
 /// A hart of a life as it was at some time, and the instructions that it has executed since which touch nothing but its registers

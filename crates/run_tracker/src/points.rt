@@ -1,8 +1,8 @@
 //! The points of a machine's harts.
 ghost use Rattle.std.specs.Prelude.{◌≡◌, ◌+◌, ◌*◌, ◌<◌, length};
-ghost use Rattle.ido_base.specs.Layout.{line_count, point_at};
+ghost use Rattle.log_schemes.specs.Layout.{line_count, point_at};
 ghost use Rattle.ido_base.specs.Words.{word_at, last_position};
-ghost use Rattle.rv64_isa.specs.Machine.{World, durable_point, live_at};
+ghost use Rattle.machine_model.specs.Machine.{World, durable_point, live_at};
 ghost use Rattle.ido_machine.specs.Machines.{RepresentsMachine, program_in, log_by};
 ghost use Rattle.run_tracker.specs.links.AccountRepresentation.{point_word};
 

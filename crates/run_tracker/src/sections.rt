@@ -1,7 +1,7 @@
 //! The sections that have ended by steps that are kept.
 ghost use Rattle.std.specs.Prelude.{◌≡◌, ◌<◌, ◌^◌, ℕ, length, true, false, IfOk};
 ghost use Rattle.ido_base.specs.Words.{word_at};
-ghost use Rattle.rv64_isa.specs.Machine.{World, durable_point};
+ghost use Rattle.machine_model.specs.Machine.{World, durable_point};
 ghost use Rattle.ido_machine.specs.Machines.{RepresentsMachine, program_in};
 ghost use Rattle.run_tracker.specs.links.AccountRepresentation.{point_word};
 ghost use Rattle.run_tracker.specs.links.SectionRepresentation.{outside, looked_at, section_at, seen_at};

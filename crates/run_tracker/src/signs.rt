@@ -1,7 +1,8 @@
 //! The code words of threads, decoded once, with their signs: which of them are marks, which are fences, and which store.
 ghost use Rattle.std.specs.Prelude.{◌≡◌, ◌-◌, ◌/◌, ◌<◌, ◌≤◌, ◌^◌, ◌||◌, ℕ, None, Some, length, map, IfOk, IfSome, IfNone};
-ghost use Rattle.rv64_isa.specs.Executables.{node_marks, resume_marks};
-ghost use Rattle.rv64_isa.specs.Programs.{program_of, slot_of};
+ghost use Rattle.machine_model.specs.Executables.{node_marks, resume_marks};
+ghost use Rattle.rv64_isa.specs.Programs.{slot_of};
+ghost use Rattle.machine_model.specs.Objects.{program_of};
 ghost use Rattle.hart_core.specs.LocalSteps.{local_step};
 ghost use Rattle.hart_core.specs.Objects.{IsWithinLimits};
 ghost use Rattle.run_tracker.specs.links.SignTables.{is_fence_slot, is_plain, is_store_slot, is_word_at};
@@ -10,8 +11,9 @@ ghost use Rattle.run_tracker.specs.links.SignTables.{plain_entry, placed_in, sig
 use hart_core::local::{self, LocalState};
 use hart_core::program::Program;
 use ido_base::memory::OutOfMemory;
+use machine_model::object::Object;
 use rv64_isa::instr::Instr;
-use rv64_isa::object::{Marks, Object, Slot, ThreadMarks};
+use rv64_isa::object::{Marks, Slot, ThreadMarks};
 use std::alloc::Global;
 
 /// What is told of a code word.

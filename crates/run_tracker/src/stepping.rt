@@ -2,14 +2,14 @@
 //! makes millions of them.
 ghost use Rattle.std.specs.Prelude.{◌≡◌, ◌+◌, ◌<◌, ◌≤◌, ◌^◌, List, true, false, ℕ, length, slice_get, None, Some, IfSome, IfNone};
 ghost use Rattle.std.specs.Vec.{vec_capacity, vec_len};
-ghost use Rattle.ido_base.specs.declared.event.Event.TheVariants.{Step, Evict, Crash, Start};
-ghost use Rattle.ido_base.specs.declared.event.Reply.TheVariants.{Moved};
-ghost use Rattle.ido_base.specs.Layout.{line_count};
+ghost use Rattle.machine_events.specs.declared.event.Event.TheVariants.{Step, Evict, Crash, Start};
+ghost use Rattle.machine_events.specs.declared.event.Reply.TheVariants.{Moved};
+ghost use Rattle.log_schemes.specs.Layout.{line_count};
 ghost use Rattle.ido_base.specs.Words.{word_at, last_position};
 ghost use Rattle.rv64_isa.specs.declared.object.Slot.{Slot};
-ghost use Rattle.rv64_isa.specs.declared.phase.Phase.TheVariants.{Run};
-ghost use Rattle.rv64_isa.specs.Machine.{Hart, World, IsValidAt, can_start, happens};
-ghost use Rattle.rv64_isa.specs.Schedule.{Steps, hart_steps, is_running, with_step, steps_after, with_all_kept, with_kept};
+ghost use Rattle.machine_model.specs.declared.phase.Phase.TheVariants.{Run};
+ghost use Rattle.machine_model.specs.Machine.{Hart, World, IsValidAt, can_start, happens};
+ghost use Rattle.machine_model.specs.Schedule.{Steps, hart_steps, is_running, with_step, steps_after, with_all_kept, with_kept};
 ghost use Rattle.hart_core.specs.LocalSteps.{local_step, placed_code};
 ghost use Rattle.ido_machine.specs.Harts.{local_state_of, GoesLocally};
 ghost use Rattle.ido_machine.specs.Machines.{RepresentsMachine, IsAfter, program_in, log_by, events_of};
@@ -26,10 +26,10 @@ use crate::points::{point_durable, point_position};
 use crate::sections::Sections;
 use crate::signs::{Entry, Sign, SignTable, sign_of};
 use hart_core::local::LocalWrite;
-use ido_base::event::{Event, Reply};
 use ido_machine::machine::Machine;
+use machine_events::event::{Event, Reply};
+use machine_model::phase::Phase;
 use rv64_isa::object::Slot;
-use rv64_isa::phase::Phase;
 
 /// What is seen of a hart before its step.
 #[derive(Clone, Copy, Drop)]

@@ -6,10 +6,10 @@ use Rattle.std.specs.Global.{Global}
 use Rattle.std.specs.List.{AllByRecursion, AllZip}
 use Rattle.std.proofs.lemmas.List.{length-append, length-map}
 use Rattle.std.proofs.lemmas.Option.{none-some, same_Some}
-use Rattle.ido_base.specs.Layout.{bank_bytes, log_of}
+use Rattle.log_schemes.specs.Layout.{bank_bytes, log_of}
 use Rattle.ido_base.specs.Locks.{locks_in}
-use Rattle.ido_base.specs.declared.log.Log.{Log}
-use Rattle.ido_base.specs.declared.log.Log.TheVariants.{V1, V2}
+use Rattle.log_schemes.specs.declared.log.Log.{Log}
+use Rattle.log_schemes.specs.declared.log.Log.TheVariants.{V1, V2}
 use Rattle.c_tree.specs.Exprs as e
 use Rattle.c_tree.specs.HoldPrices.{hold_price, hold_prices}
 use Rattle.c_tree.specs.Prices.{key_nodes, nodes_of}

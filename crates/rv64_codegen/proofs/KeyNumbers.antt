@@ -3,8 +3,8 @@ use Rattle.std.proofs.Common.{◌≡◌, ℕ, ◌+◌, ◌*◌, ◌^◌, ◌<◌
 use Rattle.std.proofs.Common.{Bool, true, false, Option, ◌==◌, ◌||◌}
 use Rattle.std.specs.Prelude.{pos, slice_set}
 use Rattle.std.proofs.lemmas.Bool.{eqb-true, true≢false}
-use Rattle.ido_base.specs.Layout.{bank_bytes, log_of}
-use Rattle.ido_base.specs.declared.log.Log.{Log}
+use Rattle.log_schemes.specs.Layout.{bank_bytes, log_of}
+use Rattle.log_schemes.specs.declared.log.Log.{Log}
 use Rattle.c_tree.specs.Exprs as e
 use Rattle.c_tree.specs.Values.{value}
 use Rattle.c_tree.specs.WellFormed.{IsExpr, Fits}

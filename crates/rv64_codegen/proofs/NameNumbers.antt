@@ -4,7 +4,7 @@ use Rattle.std.proofs.Common.{Option, Some, None, if◌then◌else◌}
 use Rattle.std.specs.Prelude.{pos, slice_get, ℤ}
 use Rattle.std.specs.List.{AllByRecursion, AllZip}
 use Rattle.std.proofs.lemmas.Option.{none-some, slice_get_within}
-use Rattle.ido_base.specs.Layout.{bank_bytes, log_of}
+use Rattle.log_schemes.specs.Layout.{bank_bytes, log_of}
 use Rattle.ido_ints.specs.declared.kinds.Kind.{Kind}
 use Rattle.ido_ints.specs.Operators.{binary_of, is_zero, unary_of}
 use Rattle.ido_ints.specs.TypedNumbers.{Typed, converted}

@@ -27,10 +27,11 @@ use c_tree::lock_names::lock_names;
 use c_tree::shapes::shapes;
 use expr_code::{Frame, Home};
 use ido_base::memory::OutOfMemory;
+use machine_model::object::Code;
 use memory_layout::variables::addresses;
 use region_cutter::cleaned_later;
 use rv64_isa::field::Register;
-use rv64_isa::object::{Code, CodeItem, Label};
+use rv64_isa::object::{CodeItem, Label};
 use std::alloc::Global;
 
 /// Appends a label.

@@ -4,8 +4,8 @@ use flow_graph::colours::Colours;
 use flow_graph::cuts::Cuts;
 use flow_graph::graph::Graph;
 use flow_graph::live_sets::LiveSets;
-use ido_base::log::Log;
 use lock_discipline::Held;
+use log_schemes::log::Log;
 
 /// A program's flow graph, and what was found out about it.
 #[derive(Clone, Copy)]

@@ -2,7 +2,7 @@
 ghost use Rattle.std.specs.Prelude.{◌≡◌, ◌<◌, ◌-◌, IfOk};
 ghost use Rattle.lock_discipline.specs.Masks.{mask_of};
 ghost use Rattle.boundary_code.specs.Boundaries.{lists_of};
-ghost use Rattle.ido_base.specs.declared.log.Log.TheVariants.{V1, V2};
+ghost use Rattle.log_schemes.specs.declared.log.Log.TheVariants.{V1, V2};
 ghost use Rattle.thread_code.specs.Plans.{set_before};
 ghost use Rattle.rv64_codegen.specs.links.Threads.{IsOwn, IsKeptFor, AreNumbersOf, plan_in, thread_of};
 
@@ -11,10 +11,10 @@ use crate::plan::Plan;
 use c_tree::expr::LockRef;
 use expr_code::Frame;
 use flow_graph::graph::Part;
-use ido_base::log::Log;
 use ido_base::memory::OutOfMemory;
 use lock_discipline::mask_of;
-use memory_layout::log::log_of;
+use log_schemes::addresses::log_of;
+use log_schemes::log::Log;
 use node_code::Kept;
 use operator_code::constant::constant;
 use rv64_isa::field::Register;

@@ -1,10 +1,5 @@
 -- Worked rows of the definitions.
 use Rattle.std.proofs.Common.{◌≡◌, ◌-◌, ◌^◌, List, [], ◌∷◌, ◌++◌, refl, Some, None, replicate}
-use Rattle.ido_base.specs.declared.event.Event.{Event}
-use Rattle.ido_base.specs.declared.log.Log.TheVariants.{V1}
-use Rattle.ido_base.specs.declared.event.Event.TheVariants.{Step, Evict, Crash}
-use Rattle.ido_base.specs.Words.{live_value, durable_value, word_at}
-use Rattle.ido_base.specs.Layout.{initial_words}
 use Rattle.rv64_isa.specs.declared.instr.Instr.TheVariants.{Lui, Jal, Branch, Store, OpImmediate, ShiftImmediate, Op, CboClean, Fence}
 use Rattle.rv64_isa.specs.declared.instr.Operation.TheVariants.{Mul, Mulh, Mulhu, Mulhsu, Divw, Remw}
 use Rattle.rv64_isa.specs.declared.instr.Condition.TheVariants.{Beq}
@@ -16,7 +11,6 @@ use Rattle.rv64_isa.specs.declared.object.Slot.TheVariants.{Row}
 use Rattle.rv64_isa.specs.Formats.{word_of, decoded}
 use Rattle.rv64_isa.specs.Arithmetic.{result_of}
 use Rattle.rv64_isa.specs.Rows.{row}
-use Rattle.rv64_isa.specs.Machine.{World, start_of, after_events, happens, after_crash_of}
 
 addi_word : word_of (OpImmediate Addi 5 0 1) ≡ 0x0010_0293
 unfolding word_of
@@ -82,30 +76,3 @@ divw_by_zero = refl
 remw_by_zero : result_of Remw 7 0 ≡ 7
 unfolding result_of
 remw_by_zero = refl
-
--- x5 := 0x10000000; x6 := 7; stored, cleaned, fenced
-code : List Slot
-code = Row (Lui 5 0x10000) ∷ Row (OpImmediate Addi 6 0 7) ∷ Row (Store Sd 6 5 0) ∷ Row (CboClean 5) ∷ Row Fence ∷ []
-
-after : List Event → World
-after events = after_events (code ∷ []) (start_of V1 (code ∷ []) 1 (5 ∷ [])) events
-
-live_seven : live_value (word_at (after (replicate 3 (Step 0))).words 0) ≡ 7
-unfolding initial_words start_of happens row result_of after code
-live_seven = refl
-
-not_durable : durable_value (word_at (after (replicate 4 (Step 0))).words 0) ≡ 5
-unfolding initial_words start_of happens row result_of after code
-not_durable = refl
-
-durable_by_fence : durable_value (word_at (after (replicate 5 (Step 0))).words 0) ≡ 7
-unfolding initial_words start_of happens row result_of after code
-durable_by_fence = refl
-
-durable_by_eviction : durable_value (word_at (after (replicate 3 (Step 0) ++ Evict 0 1 ∷ [])).words 0) ≡ 7
-unfolding initial_words start_of happens row result_of after code
-durable_by_eviction = refl
-
-lost_by_crash : live_value (word_at (after (replicate 4 (Step 0) ++ Crash ∷ [])).words 0) ≡ 5
-unfolding initial_words start_of happens row result_of after code after_crash_of
-lost_by_crash = refl

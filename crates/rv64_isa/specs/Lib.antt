@@ -2,8 +2,4 @@ pub mod Arithmetic
 pub mod Formats
 pub mod Rows
 pub mod Programs
-pub mod Machine
-pub mod Executables
-pub mod Frames
-pub mod Schedule
 pub mod Signed

@@ -4,7 +4,6 @@ use Rattle.std.specs.Prelude.{[], nat_le, ◌==◌, ◌&&◌, if◌then◌else�
 use Rattle.ido_base.specs.declared.limits.TheConstants.{CODE_BASE}
 use Rattle.rv64_isa.specs.declared.object.Slot.{Slot}
 use Rattle.rv64_isa.specs.declared.object.Slot.TheVariants.{Row, NoRow}
-use Rattle.rv64_isa.specs.declared.object.Object.{Object}
 use Rattle.rv64_isa.specs.Formats.{decoded, word_of}
 
 -- what a machine keeps of a word
@@ -18,9 +17,6 @@ slot_of word = elim (decoded word) [
 abbrev pub slot_word : Slot → ℕ
 slot_word (Row instr) = word_of instr
 slot_word (NoRow word) = word
-
-abbrev pub program_of : Object → List (List Slot)
-program_of object = map (λ code. map slot_of code.items) object.code.items
 
 -- the address of the first thread's first word
 abbrev pub code_base : ℕ

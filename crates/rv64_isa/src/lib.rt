@@ -1,11 +1,8 @@
-//! The instructions of RV64IM, CBO.CLEAN, FENCE and ECALL: their types, their words both ways, and the
-//! definition of a machine of several harts that runs them over persistent memory.
+//! The instructions of RV64IM, CBO.CLEAN, FENCE and ECALL: their types, their words both ways, and what each does to registers and pc.
 #![tactic(auto)]
 
 pub mod field;
 pub mod instr;
-pub mod laws;
 pub mod object;
-pub mod phase;
 mod table;
 pub mod word;

@@ -1,27 +1,32 @@
-//! Objects of code with labels.
-ghost use Rattle.std.specs.Prelude.{◌≡◌, ◌≤◌, All, IfOk, length, map, sum_by};
+//! Words and marks of code with labels, thread after thread.
+ghost use Rattle.std.specs.Prelude.{◌≤◌, All, IfOk, length, map, sum_by};
 ghost use Rattle.ido_base.specs.declared.limits.TheConstants.{MOST_THREADS, MOST_CODE_WORDS};
-ghost use Rattle.rv64_isa.specs.Programs.{code_base, program_of};
+ghost use Rattle.rv64_isa.specs.Programs.{code_base};
 ghost use Rattle.rv64_link.specs.LabelledCode.{most_words_of};
 ghost use Rattle.rv64_link.specs.LinkedCode.{AreLinked};
 ghost use Rattle.rv64_link.specs.links.Threads.{items_in, slots_in};
 
 use crate::thread::link_thread;
 use ido_base::memory::OutOfMemory;
-use rv64_isa::object::{Code, CodeItem, Marks, Object, ThreadMarks};
+use rv64_isa::object::{CodeItem, ThreadMarks};
 use std::alloc::Global;
 
 /// The words and the marks of each thread.
 #[derive(Drop)]
-struct Threads {
-    code: Vec<Vec<u32>>,
-    marks: Vec<ThreadMarks>,
+pub struct LinkedThreads {
+    pub code: Vec<Vec<u32>>,
+    pub marks: Vec<ThreadMarks>,
 }
 
-/// The words and the marks of threads, thread after thread.
-fn link_threads(alloc: Global, threads: &[Vec<CodeItem>]) -> Result<Threads, OutOfMemory>
+/// The words and the marks of threads, thread after thread, where the first one's code begins at the base of all code. A branch is one word, or over
+/// many items two: one by the inverse condition over a jump. A label stands where it stands first; one that stands nowhere is the end.
+///
+/// There are at most 8 threads, each of at most 65,536 words, where each branch counts as two.
+pub fn link_threads(alloc: Global, threads: &[Vec<CodeItem>]) -> Result<LinkedThreads, OutOfMemory>
     requires threads { length threads.now ≤ MOST_THREADS }
     requires few { All (λ items. sum_by most_words_of items.items ≤ MOST_CODE_WORDS) threads.now }
+    // The words do, thread after thread, what the code with labels does, and marks are the
+    // addresses of the instructions that they stand before.
     ensures { IfOk result (λ r. AreLinked code_base (map items_in threads.now) (map slots_in r.code.items) r.marks.items) }
 {
     let mut code = Vec::new(alloc);
@@ -33,33 +38,5 @@ fn link_threads(alloc: Global, threads: &[Vec<CodeItem>]) -> Result<Threads, Out
         code.push(words)?;
         marks.push(thread_marks)?;
     }
-    Ok(Threads { code, marks })
-}
-
-/// The object of code with labels, and the addresses of its marks. A branch is one word, or over many
-/// items two: one by the inverse condition over a jump. A label stands where it stands first; one that
-/// stands nowhere is the end.
-///
-/// There are at most 8 threads, each of at most 65,536 words, where each branch counts as two.
-pub fn link(alloc: Global, code: Code) -> Result<(Object, Marks), OutOfMemory>
-    requires threads { length code.threads.items ≤ MOST_THREADS }
-    requires few { All (λ items. sum_by most_words_of items.items ≤ MOST_CODE_WORDS) code.threads.items }
-    // The program does, thread after thread, what the code with labels does, and marks are the
-    // addresses of the instructions that they stand before.
-    ensures linked { IfOk result (λ r. AreLinked code_base (map items_in code.threads.items) (program_of r.0) r.1.threads.items) }
-    ensures initial { IfOk result (λ r. r.0.initial ≡ code.initial) }
-    ensures mutexes { IfOk result (λ r. r.0.mutexes ≡ code.mutexes) }
-    ensures log { IfOk result (λ r. r.0.log ≡ code.log) }
-{
-    let threads = link_threads(alloc, &code.threads)?;
-    let object = Object {
-        code: threads.code,
-        initial: code.initial,
-        mutexes: code.mutexes,
-        log: code.log,
-    };
-    let marks = Marks {
-        threads: threads.marks,
-    };
-    Ok((object, marks))
+    Ok(LinkedThreads { code, marks })
 }

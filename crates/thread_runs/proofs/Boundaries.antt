@@ -5,9 +5,10 @@ use Rattle.std.proofs.Common.{false}
 use Rattle.std.specs.Prelude.{◌==◌, ◌&&◌, ◌||◌, nat_le, Contains}
 use Rattle.std.specs.List.{list_any, filter}
 use Rattle.std.proofs.lemmas.Bool.{cond_both, le-leb}
-use Rattle.ido_base.specs.declared.log.Log.TheVariants.{V1, V2}
-use Rattle.ido_base.specs.declared.log.Log.{Log}
-use Rattle.ido_base.specs.Layout.{bank_slots, line_bytes, log_lines, in_range, aligned, point_at, slot_at, logs_base, variables_base}
+use Rattle.log_schemes.specs.declared.log.Log.TheVariants.{V1, V2}
+use Rattle.log_schemes.specs.declared.log.Log.{Log}
+use Rattle.ido_base.specs.Layout.{line_bytes, aligned, logs_base, variables_base}
+use Rattle.log_schemes.specs.Layout.{bank_slots, log_lines, in_range, point_at, slot_at}
 use Rattle.rv64_isa.specs.Rows.{Effect, Continues, Loads, Stores, Cleans, Fences, Calls, read}
 use Rattle.boundary_code.specs.Boundaries.{Boundary, boundary_effects, bank_effects, commit_effects, lines_in_use, is_empty}
 use Rattle.boundary_code.specs.Boundaries.{HaveRoom, bank_lines, kept_locks, listed_from, slots_kept}

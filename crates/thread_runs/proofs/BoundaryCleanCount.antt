@@ -2,9 +2,9 @@
 use Rattle.std.proofs.Common.{◌-◌, ◌≡◌, ℕ, suc, ◌+◌, ◌*◌, ◌%◌, ◌^◌, ◌≤◌, List, [], ◌∷◌, ◌++◌, length, map, arith, Bool, true, false}
 use Rattle.std.specs.Prelude.{filter, ◌==◌, ◌/◌, if◌then◌else◌}
 use Rattle.std.specs.List.{list_any}
-use Rattle.ido_base.specs.declared.log.Log.{Log}
-use Rattle.ido_base.specs.declared.log.Log.TheVariants.{V1, V2}
-use Rattle.ido_base.specs.Layout.{slot_at}
+use Rattle.log_schemes.specs.declared.log.Log.{Log}
+use Rattle.log_schemes.specs.declared.log.Log.TheVariants.{V1, V2}
+use Rattle.log_schemes.specs.Layout.{slot_at}
 use Rattle.rv64_isa.specs.Rows.{Effect, Stores, Cleans, read}
 use Rattle.code_runs.specs.CodeTraces.{seen_effects}
 use Rattle.boundary_code.specs.Boundaries.{Boundary, bank_lines, kept_locks, slots_kept, lines_in_use, bank_effects, commit_effects, boundary_effects, is_empty}

@@ -3,7 +3,7 @@ use Rattle.std.proofs.Common.{ℕ, zero, ◌-◌, ◌<◌, List, [], ◌∷◌, 
 use Rattle.std.specs.Prelude.{Contains}
 use Rattle.rv64_isa.specs.declared.object.Slot.{Slot}
 use Rattle.rv64_isa.specs.Rows.{Effect}
-use Rattle.rv64_isa.specs.Machine.{World}
+use Rattle.machine_model.specs.Machine.{World}
 use Rattle.boundary_code.specs.Boundaries.{boundary_effects}
 use Rattle.flow_graph.specs.Nodes.{Action, Node, successors}
 use Rattle.flow_graph.specs.Liveness.{NodeAt}

@@ -2,11 +2,11 @@
 use Rattle.std.proofs.Common.{◌≡◌, ℕ, ◌+◌, List, [], length, refl, ap, sym, ◌∙◌, subst, true, false, Some, None, ◌==◌}
 use Rattle.std.specs.Prelude.{slice_get, ◌&&◌, Contains}
 use Rattle.std.specs.List.{list_any}
-use Rattle.ido_base.specs.declared.event.Event.TheVariants.{Step}
-use Rattle.ido_base.specs.declared.event.Reply.TheVariants.{Waits}
+use Rattle.machine_events.specs.declared.event.Event.TheVariants.{Step}
+use Rattle.machine_events.specs.declared.event.Reply.TheVariants.{Waits}
 use Rattle.rv64_isa.specs.Rows.{Effect, next, read}
-use Rattle.rv64_isa.specs.Machine.{Hart, World, Outcome, with_holder, moved, gone_on, happens, after_event}
-use Rattle.rv64_isa.specs.Schedule.{has_moved, is_mark, passes_mark}
+use Rattle.machine_model.specs.Machine.{Hart, World, Outcome, with_holder, moved, gone_on, happens, after_event}
+use Rattle.machine_model.specs.Schedule.{has_moved, is_mark, passes_mark}
 use Rattle.boundary_code.specs.Boundaries.{boundary_effects, side_after}
 use Rattle.node_code.specs.Pieces.{takes}
 use Rattle.flow_graph.specs.Nodes.{Action, Lock, successors}

@@ -1,10 +1,10 @@
 -- Steps at a mark.
 use Rattle.std.proofs.Common.{◌≡◌, refl, ◌⊎◌, inl, inr, ℕ, suc, List, [], ◌∷◌, sym, ◌∙◌, subst, true, Some}
-use Rattle.ido_base.specs.declared.event.Event.TheVariants.{Step}
+use Rattle.machine_events.specs.declared.event.Event.TheVariants.{Step}
 use Rattle.rv64_isa.specs.Rows.{Effect}
-use Rattle.rv64_isa.specs.Machine.{Hart, after_event}
-use Rattle.rv64_isa.specs.Frames.{IsWellFormedWorld}
-use Rattle.rv64_isa.specs.Schedule.{effect_at}
+use Rattle.machine_model.specs.Machine.{Hart, after_event}
+use Rattle.machine_model.specs.Frames.{IsWellFormedWorld}
+use Rattle.machine_model.specs.Schedule.{effect_at}
 use Rattle.flow_graph.specs.Actions as a
 use Rattle.code_runs.specs.ComputingRuns.{LocalConfig, config}
 use Rattle.code_runs.specs.CodeTraces.{Observation, Mark, marked, seen_effects}

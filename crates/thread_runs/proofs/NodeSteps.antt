@@ -3,14 +3,15 @@ use Rattle.std.proofs.Common.{◌≡◌, ◌⊎◌, inl, inr, ℕ, zero, suc, �
 use Rattle.std.proofs.Common.{true, false, Some}
 use Rattle.std.specs.Prelude.{◌&&◌, ◌||◌, ◌*◌, nat_le}
 use Rattle.std.proofs.lemmas.Bool.{cond_both, or_cases, and_parts, leb-true, le-leb}
-use Rattle.ido_base.specs.declared.log.Log.{Log}
-use Rattle.ido_base.specs.Layout.{in_range, aligned, variable_at, variables_base, logs_base, line_bytes, log_lines}
+use Rattle.log_schemes.specs.declared.log.Log.{Log}
+use Rattle.ido_base.specs.Layout.{aligned, variable_at, variables_base, logs_base, line_bytes}
+use Rattle.log_schemes.specs.Layout.{in_range, log_lines}
 use Rattle.ido_ints.specs.declared.kinds.Kind.{Kind}
 use Rattle.ido_ints.specs.Kinds.{bytes_of}
 use Rattle.c_tree.specs.Source.{Pending}
 use Rattle.c_tree.specs.WellFormed.{shape_of}
 use Rattle.rv64_isa.specs.Rows.{Effect, Cleans, row, read}
-use Rattle.rv64_isa.specs.Schedule.{effect_at}
+use Rattle.machine_model.specs.Schedule.{effect_at}
 use Rattle.memory_layout.specs.Roles.{pending_value}
 use Rattle.boundary_code.specs.Boundaries.{boundary_effects}
 use Rattle.flow_graph.specs.Nodes.{Node}

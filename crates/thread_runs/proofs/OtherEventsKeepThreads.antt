@@ -1,8 +1,8 @@
 -- What others do leaves a thread where it is; and where no thread is stuck.
 use Rattle.std.proofs.Common.{◌≡◌, suc, [], ◌∷◌, sym, subst, Some}
 use Rattle.rv64_isa.specs.Rows.{Effect}
-use Rattle.rv64_isa.specs.Machine.{Hart}
-use Rattle.rv64_isa.specs.Schedule.{effect_at}
+use Rattle.machine_model.specs.Machine.{Hart}
+use Rattle.machine_model.specs.Schedule.{effect_at}
 use Rattle.code_runs.specs.ComputingRuns.{config}
 use Rattle.code_runs.specs.CodeTraces.{Mark, marked, seen_effects}
 use Rattle.hart_runs.specs.Calls.{on_run}

@@ -3,7 +3,7 @@ use Rattle.std.proofs.Common.{◌≡◌, ℕ, zero, suc, ◌+◌, ◌≤◌, Lis
 use Rattle.ido_base.specs.Words.{Entry}
 use Rattle.rv64_isa.specs.declared.object.Slot.{Slot}
 use Rattle.rv64_isa.specs.Rows.{Effect, Continues, Loads, Stores, Cleans, Fences, Calls, row}
-use Rattle.rv64_isa.specs.Machine.{Hart, World}
+use Rattle.machine_model.specs.Machine.{Hart, World}
 use Rattle.code_runs.specs.ComputingRuns.{LocalConfig, config}
 use Rattle.code_runs.specs.CodeTraces.{MarkedEnvironment, Observation, Mark, Trace, outside, marked, seen_effects}
 use Rattle.hart_runs.specs.HartsOnRuns.{OnRun}

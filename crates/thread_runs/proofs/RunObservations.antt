@@ -2,7 +2,7 @@
 use Rattle.std.proofs.Common.{◌≡◌, ℕ, List, [], ◌∷◌, ◌++◌, refl, ap, sym, ◌∙◌, cond, Bool, true, false, ◌==◌}
 use Rattle.std.specs.List.{list_any}
 use Rattle.rv64_isa.specs.Rows.{Effect, Continues, Loads, Stores, Cleans, Fences, Calls}
-use Rattle.rv64_isa.specs.Schedule.{is_mark}
+use Rattle.machine_model.specs.Schedule.{is_mark}
 use Rattle.code_runs.specs.CodeTraces.{MarkedEnvironment, Observation, Mark, Does, outside, marked, seen_effects}
 use Rattle.hart_runs.specs.Laws.{StoresApart}
 use Rattle.thread_runs.specs.CodeFragments.{AreEffectsApart, effects_of}

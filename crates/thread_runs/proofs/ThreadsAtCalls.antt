@@ -3,16 +3,16 @@ use Rattle.std.proofs.Common.{◌≡◌, ℕ, zero, suc, ◌+◌, ◌*◌, ◌^�
 use Rattle.std.specs.Prelude.{slice_get, ◌&&◌}
 use Rattle.std.proofs.Math.Nat.{mod-eq_of_lt}
 use Rattle.std.proofs.Math.ListN.{length-set}
-use Rattle.ido_base.specs.declared.log.Log.{Log}
-use Rattle.ido_base.specs.declared.event.Event.TheVariants.{Step}
+use Rattle.log_schemes.specs.declared.log.Log.{Log}
+use Rattle.machine_events.specs.declared.event.Event.TheVariants.{Step}
 use Rattle.ido_base.specs.Layout.{byte_number}
 use Rattle.ido_base.specs.Words.{Word, loaded}
 use Rattle.rv64_isa.specs.declared.instr.Instr.{Instr}
 use Rattle.rv64_isa.specs.declared.instr.Instr.TheVariants.{Ecall}
 use Rattle.rv64_isa.specs.declared.object.Slot.{Slot}
 use Rattle.rv64_isa.specs.Rows.{Effect, next, read}
-use Rattle.rv64_isa.specs.Machine.{Hart, World, Outcome, moved, happens, after_event, reply_to}
-use Rattle.rv64_isa.specs.Schedule.{has_moved}
+use Rattle.machine_model.specs.Machine.{Hart, World, Outcome, moved, happens, after_event, reply_to}
+use Rattle.machine_model.specs.Schedule.{has_moved}
 use Rattle.rv64_link.specs.LinkedCode.{IsInstructionAt}
 use Rattle.memory_layout.specs.Roles as roles
 use Rattle.code_runs.specs.ComputingRuns.{LocalConfig, config}

@@ -1,7 +1,7 @@
 -- Threads at their nodes' code, and what they see of variables.
 use Rattle.std.proofs.Common.{◌≡◌, ℕ, List, refl, ap, sym, ◌∙◌, ℤ}
 use Rattle.std.specs.Prelude.{slice_get}
-use Rattle.rv64_isa.specs.Machine.{Hart}
+use Rattle.machine_model.specs.Machine.{Hart}
 use Rattle.flow_graph.specs.Nodes.{Action, Eval, Store, Test, Lock, Unlock, End}
 use Rattle.flow_graph.specs.Actions.{Seen}
 use Rattle.code_runs.specs.ComputingRuns.{config}

@@ -2,9 +2,9 @@
 use Rattle.std.proofs.Common.{◌≡◌, ℕ, List, length, refl, ap, sym, ◌∙◌, subst, false, Some, None, ◌==◌}
 use Rattle.std.specs.Prelude.{slice_get, slice_set}
 use Rattle.std.specs.List.{list_any}
-use Rattle.ido_base.specs.declared.event.Event.TheVariants.{Step}
+use Rattle.machine_events.specs.declared.event.Event.TheVariants.{Step}
 use Rattle.rv64_isa.specs.Rows.{Effect, next, read}
-use Rattle.rv64_isa.specs.Machine.{Hart, World, with_holder, moved, gone_on, happens, after_event}
+use Rattle.machine_model.specs.Machine.{Hart, World, with_holder, moved, gone_on, happens, after_event}
 use Rattle.node_code.specs.Pieces.{gives, ends}
 use Rattle.flow_graph.specs.Nodes.{Action, Unlock, End}
 use Rattle.flow_graph.specs.Actions.{Seen}

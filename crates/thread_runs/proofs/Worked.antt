@@ -1,19 +1,19 @@
 -- Worked rows: a thread that has its end alone.
 use Rattle.std.proofs.Common.{◌≡◌, ℕ, ◌+◌, ◌*◌, List, [], ◌∷◌, replicate, refl, arith, Bool, true, false, Option, Some, None}
 use Rattle.std.specs.Prelude.{slice_get, slice_set}
-use Rattle.ido_base.specs.declared.log.Log.TheVariants.{V1}
+use Rattle.log_schemes.specs.declared.log.Log.TheVariants.{V1}
 use Rattle.ido_base.specs.declared.place.Place.{Place}
-use Rattle.ido_base.specs.declared.event.Event.TheVariants.{Step}
+use Rattle.machine_events.specs.declared.event.Event.TheVariants.{Step}
 use Rattle.rv64_isa.specs.declared.instr.Instr.TheVariants.{OpImmediate, Ecall}
 use Rattle.rv64_isa.specs.declared.instr.ImmediateOperation.TheVariants.{Addi}
 use Rattle.rv64_isa.specs.declared.object.Slot.{Slot}
 use Rattle.rv64_isa.specs.declared.object.Slot.TheVariants.{Row}
-use Rattle.rv64_isa.specs.declared.phase.Phase.{Phase}
-use Rattle.rv64_isa.specs.declared.phase.Phase.TheVariants.{Run, Ended}
+use Rattle.machine_model.specs.declared.phase.Phase.{Phase}
+use Rattle.machine_model.specs.declared.phase.Phase.TheVariants.{Run, Ended}
 use Rattle.rv64_isa.specs.Arithmetic.{result_of}
 use Rattle.rv64_isa.specs.Rows.{row}
-use Rattle.rv64_isa.specs.Machine.{Hart, World, happens, after_event, after_events}
-use Rattle.rv64_isa.specs.Schedule.{passes_mark}
+use Rattle.machine_model.specs.Machine.{Hart, World, happens, after_event, after_events}
+use Rattle.machine_model.specs.Schedule.{passes_mark}
 use Rattle.flow_graph.specs.Nodes.{End, Node}
 use Rattle.flow_graph.specs.Actions as a
 use Rattle.code_runs.specs.ComputingRuns.{config}

@@ -1,18 +1,18 @@
 -- Laws of threads in fragments of their code: what each event does to them.
 use Rattle.std.specs.Prelude.{◌≡◌, ◌≢◌, ◌⊎◌, ℕ, suc, ◌+◌, ◌-◌, ◌*◌, ◌^◌, ◌<◌, ◌≤◌, List, [], ◌∷◌, ◌++◌, length, slice_get, slice_set, slice_index_or}
 use Rattle.std.specs.Prelude.{Contains, Option, Some, None, true, false, ℤ}
-use Rattle.ido_base.specs.declared.log.Log.{Log}
-use Rattle.ido_base.specs.declared.event.Event.{Event}
-use Rattle.ido_base.specs.declared.event.Event.TheVariants.{Step}
-use Rattle.ido_base.specs.declared.event.Reply.TheVariants.{Waits, Stuck}
-use Rattle.ido_base.specs.declared.event.Cause.{Cause}
+use Rattle.log_schemes.specs.declared.log.Log.{Log}
+use Rattle.machine_events.specs.declared.event.Event.{Event}
+use Rattle.machine_events.specs.declared.event.Event.TheVariants.{Step}
+use Rattle.machine_events.specs.declared.event.Reply.TheVariants.{Waits, Stuck}
+use Rattle.machine_events.specs.declared.event.Cause.{Cause}
 use Rattle.ido_base.specs.Locks.{least_held}
 use Rattle.rv64_isa.specs.declared.object.Slot.{Slot}
-use Rattle.rv64_isa.specs.declared.phase.Phase.TheVariants.{Run, Ended}
+use Rattle.machine_model.specs.declared.phase.Phase.TheVariants.{Run, Ended}
 use Rattle.rv64_isa.specs.Rows.{Effect, read}
-use Rattle.rv64_isa.specs.Machine.{Hart, World, queue_limit, after_event, reply_to, happens, moved, with_holder, gone_on}
-use Rattle.rv64_isa.specs.Frames.{IsWellFormedWorld}
-use Rattle.rv64_isa.specs.Schedule.{is_point_store, is_fence, passes_mark, stores_point, finishes_fence}
+use Rattle.machine_model.specs.Machine.{Hart, World, queue_limit, after_event, reply_to, happens, moved, with_holder, gone_on}
+use Rattle.machine_model.specs.Frames.{IsWellFormedWorld}
+use Rattle.machine_model.specs.Schedule.{is_point_store, is_fence, passes_mark, stores_point, finishes_fence}
 use Rattle.boundary_code.specs.Boundaries.{IsOnSide, boundary_effects, side_after}
 use Rattle.flow_graph.specs.Nodes.{Node}
 use Rattle.flow_graph.specs.Actions as a

@@ -12,17 +12,18 @@ use Rattle.ido_ints.specs.declared.kinds.Kind.{Kind}
 use Rattle.ido_ints.specs.Kinds.{bytes_of, modulus_of, Holds}
 use Rattle.ido_ints.specs.Reduction.{reduced, residue}
 use Rattle.ido_ints.proofs.Public.{Same, Same_trans, Same-mod, reduced-same, reduced_held, Same-modulus, residue-Same}
-use Rattle.ido_base.specs.declared.log.Log.{Log}
+use Rattle.log_schemes.specs.declared.log.Log.{Log}
 use Rattle.ido_base.specs.declared.location.Shape.{Shape}
 use Rattle.ido_base.specs.Words as w
 use Rattle.ido_base.specs.Words.{Word, word_of, word_at, durable_value, after_crash, part}
-use Rattle.ido_base.specs.Layout.{log_words, start_from, words_of_bytes, initial_words, end_from, spread_words}
+use Rattle.ido_base.specs.Layout.{start_from, words_of_bytes, end_from, spread_words}
+use Rattle.log_schemes.specs.Layout.{log_words, initial_words}
 use Rattle.c_tree.specs.Programs.{Mutex, Variable}
 use Rattle.c_tree.specs.WellFormed.{elements_in, IsVariable, shape_of, initial_numbers}
 use Rattle.memory_layout.specs.Variables.{HaveRoom, AreInitial, bits_of}
 use Rattle.variable_words.proofs.VariableBounds.{shapes, some_bytes, address_is}
 use Rattle.memory_layout.proofs.Public.{get_below}
-use Rattle.rv64_isa.specs.Machine.{happens, start_of, after_crash_of}
+use Rattle.machine_model.specs.Machine.{happens, start_of, after_crash_of}
 use Rattle.recovery_semantics.specs.ElementHistories.{history_of}
 use Rattle.recovery_semantics.specs.Elements.{element_in}
 use Rattle.recovery_semantics.specs.VariableSpots as spots

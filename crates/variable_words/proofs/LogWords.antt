@@ -2,9 +2,10 @@
 use Rattle.std.proofs.Common.{◌≡◌, refl, ℕ, ◌+◌, ◌-◌, ◌*◌, ◌/◌, ◌%◌, ◌≤◌, ap, arith}
 use Rattle.std.specs.Prelude.{nat_lt}
 use Rattle.std.proofs.lemmas.Bool.{cond_both, ltb-true, le-leb, and_from, or_right, eq-eqb}
-use Rattle.ido_base.specs.declared.log.Log.{Log}
-use Rattle.ido_base.specs.declared.log.Log.TheVariants.{V1, V2}
-use Rattle.ido_base.specs.Layout.{bank_bytes, line_bytes, log_lines, logs_base, variables_base, byte_number}
+use Rattle.log_schemes.specs.declared.log.Log.{Log}
+use Rattle.log_schemes.specs.declared.log.Log.TheVariants.{V1, V2}
+use Rattle.ido_base.specs.Layout.{line_bytes, logs_base, variables_base, byte_number}
+use Rattle.log_schemes.specs.Layout.{bank_bytes, log_lines}
 use Rattle.variable_words.specs.Logs.{LogWord, Point, Slot, IsThere, log_address, LogsReach, LogsHoldNone, LogsApart, LinesApart}
 use Rattle.variable_words.proofs.ElementsInWords.{at_whole}
 

@@ -4,22 +4,23 @@ use Rattle.std.proofs.Common.{⊎_elim, arith}
 use Rattle.std.specs.Prelude.{slice_get, nat_lt}
 use Rattle.std.proofs.lemmas.List.{length-map}
 use Rattle.std.proofs.lemmas.Bool.{cond_both, cases_eq, both_ways, eq-eqb, ltb-false}
-use Rattle.ido_base.specs.declared.event.Event.{Event}
-use Rattle.ido_base.specs.declared.event.Event.TheVariants.{Step, Evict, Crash, Start}
+use Rattle.machine_events.specs.declared.event.Event.{Event}
+use Rattle.machine_events.specs.declared.event.Event.TheVariants.{Step, Evict, Crash, Start}
 use Rattle.ido_base.specs.Words.{Word, Entry, word_at, last_position, entry_of, stored}
 use Rattle.ido_base.specs.Growth as growth
 use Rattle.ido_base.specs.Growth.{AreChanged, IsEntry, AreEntries, PersistsThrough}
-use Rattle.ido_base.specs.Layout.{in_range, aligned, byte_number}
+use Rattle.ido_base.specs.Layout.{aligned, byte_number}
+use Rattle.log_schemes.specs.Layout.{in_range}
 use Rattle.ido_base.proofs.Public.{last_later, durable_later, are_persisted_refl, changed_refl, changed_by_persisted, stores_change, write_backs_raise}
 use Rattle.ido_base.proofs.Public.{evictions_raise, reach_stays, cleans_reach as cleans_reach_words}
 use Rattle.rv64_isa.specs.declared.object.Slot.{Slot}
-use Rattle.rv64_isa.specs.declared.phase.Phase.{Phase}
-use Rattle.rv64_isa.specs.declared.phase.Phase.TheVariants.{Done}
+use Rattle.machine_model.specs.declared.phase.Phase.{Phase}
+use Rattle.machine_model.specs.declared.phase.Phase.TheVariants.{Done}
 use Rattle.rv64_isa.specs.Rows.{Effect, next}
-use Rattle.rv64_isa.specs.Machine.{Hart, World, Outcome, with_hart, access, applied, executed, hart_step, over_after, done_if_over, phase_step, stepped}
-use Rattle.rv64_isa.specs.Machine.{anew, happens, after_event, after_events}
-use Rattle.rv64_isa.specs.Frames.{IsWellFormedWorld}
-use Rattle.rv64_isa.proofs.Public.{after_start, anew_there, get-set_same, steps_touch, step_goes, queues_stand}
+use Rattle.machine_model.specs.Machine.{Hart, World, Outcome, with_hart, access, applied, executed, hart_step, over_after, done_if_over, phase_step, stepped}
+use Rattle.machine_model.specs.Machine.{anew, happens, after_event, after_events}
+use Rattle.machine_model.specs.Frames.{IsWellFormedWorld}
+use Rattle.machine_model.proofs.Public.{after_start, anew_there, get-set_same, steps_touch, step_goes, queues_stand}
 use Rattle.recovery_semantics.specs.ElementHistories.{ArePersisted, History}
 use Rattle.recovery_semantics.specs.Elements.{number_in}
 use Rattle.recovery_semantics.specs.VariableSpots.{Spot, memory_in}

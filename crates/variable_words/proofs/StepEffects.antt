@@ -2,21 +2,22 @@
 use Rattle.std.proofs.Common.{◌≡◌, ℕ, ◌/◌, List, [], ◌∷◌, ◌++◌, length, refl, sym, ◌∙◌, subst, set, true, Option, Some, None}
 use Rattle.std.specs.Prelude.{slice_get, nat_lt, ◌==◌}
 use Rattle.std.proofs.lemmas.Bool.{cond_both}
-use Rattle.ido_base.specs.declared.event.Event.TheVariants.{Step}
-use Rattle.ido_base.specs.declared.event.Reply.TheVariants.{Waits}
+use Rattle.machine_events.specs.declared.event.Event.TheVariants.{Step}
+use Rattle.machine_events.specs.declared.event.Reply.TheVariants.{Waits}
 use Rattle.ido_base.specs.Words.{Entry, entry_of}
 use Rattle.ido_base.specs.Locks.{is_held_by, least_held, least_missing}
-use Rattle.ido_base.specs.Layout.{in_range, aligned, byte_number}
+use Rattle.ido_base.specs.Layout.{aligned, byte_number}
+use Rattle.log_schemes.specs.Layout.{in_range}
 use Rattle.rv64_isa.specs.declared.object.Slot.{Slot}
 use Rattle.rv64_isa.specs.declared.object.Slot.TheVariants.{Row, NoRow}
-use Rattle.rv64_isa.specs.declared.phase.Phase.{Phase}
-use Rattle.rv64_isa.specs.declared.phase.Phase.TheVariants.{Take, Wait, Resume, Run, Done, Ended}
+use Rattle.machine_model.specs.declared.phase.Phase.{Phase}
+use Rattle.machine_model.specs.declared.phase.Phase.TheVariants.{Take, Wait, Resume, Run, Done, Ended}
 use Rattle.rv64_isa.specs.Rows.{Effect, Continues, Loads, Stores, Cleans, Fences, Calls, row, read, next}
 use Rattle.rv64_isa.specs.Programs.{fetched}
-use Rattle.rv64_isa.specs.Machine.{Hart, World, Outcome, moved, with_hart, with_holder, drain_one, access, cleaned, fenced, acquired, released, ended, called}
-use Rattle.rv64_isa.specs.Machine.{applied, executed, hart_step, taken, waited, taking_from, record_of, over_after, done_if_over, run_step, phase_step}
-use Rattle.rv64_isa.specs.Machine.{stepped, happens, after_event}
-use Rattle.rv64_isa.proofs.Public.{get-set_same}
+use Rattle.machine_model.specs.Machine.{Hart, World, Outcome, moved, with_hart, with_holder, drain_one, access, cleaned, fenced, acquired, released, ended, called}
+use Rattle.machine_model.specs.Machine.{applied, executed, hart_step, taken, waited, taking_from, record_of, over_after, done_if_over, run_step, phase_step}
+use Rattle.machine_model.specs.Machine.{stepped, happens, after_event}
+use Rattle.machine_model.proofs.Public.{get-set_same}
 use Rattle.variable_words.specs.MemoryEffects.{MayMakeStore, IsWork, Rests, Queues, WritesBack, Makes, StepsWork}
 
 -- what the hart is in the world after a step

@@ -1,7 +1,7 @@
 -- Worked rows: a `char` after a `short` in one word, and an array of three `int` across two words.
 use Rattle.std.proofs.Common.{◌≡◌, ◌+◌, refl, List, [], ◌∷◌, None, Some}
 use Rattle.std.specs.Prelude.{pos, negsuc, map}
-use Rattle.ido_base.specs.declared.log.Log.TheVariants.{V1}
+use Rattle.log_schemes.specs.declared.log.Log.TheVariants.{V1}
 use Rattle.ido_base.specs.Layout.{word_number}
 use Rattle.ido_base.specs.Words as w
 use Rattle.ido_base.specs.Words.{Word, word_of}

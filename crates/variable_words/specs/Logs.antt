@@ -1,7 +1,8 @@
 -- The words of threads' logs: no element lies in one, and no two logs have one in common.
 use Rattle.std.specs.Prelude.{◌≡◌, ◌≢◌, ℕ, ◌*◌, ◌/◌, ◌<◌, List, true, map}
-use Rattle.ido_base.specs.declared.log.Log.{Log}
-use Rattle.ido_base.specs.Layout.{bank_slots, point_at, slot_at, in_range, aligned, byte_number, word_number, line_bytes}
+use Rattle.log_schemes.specs.declared.log.Log.{Log}
+use Rattle.ido_base.specs.Layout.{aligned, byte_number, word_number, line_bytes}
+use Rattle.log_schemes.specs.Layout.{bank_slots, point_at, slot_at, in_range}
 use Rattle.ido_ints.specs.declared.kinds.Kind.{Kind}
 use Rattle.c_tree.specs.Programs.{Variable}
 use Rattle.c_tree.specs.WellFormed.{shape_of}

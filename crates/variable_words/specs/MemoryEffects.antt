@@ -1,20 +1,21 @@
 -- What a step of a hart does to words and to its own queue, and what events do to memory.
 use Rattle.std.specs.Prelude.{◌≡◌, ◌≢◌, ℕ, ◌/◌, ◌<◌, ◌≤◌, List, [], ◌∷◌, ◌++◌, length, slice_get, Some, true}
 use Rattle.std.specs.List.{AllByRecursion}
-use Rattle.ido_base.specs.declared.event.Event.{Event}
-use Rattle.ido_base.specs.declared.event.Event.TheVariants.{Step, Evict, Crash, Start}
+use Rattle.machine_events.specs.declared.event.Event.{Event}
+use Rattle.machine_events.specs.declared.event.Event.TheVariants.{Step, Evict, Crash, Start}
 use Rattle.ido_base.specs.Words.{Word, Entry, word_at, last_position, entry_of, stored, drained}
 use Rattle.ido_base.specs.Growth.{PersistsThrough}
-use Rattle.ido_base.specs.Layout.{in_range, aligned, byte_number, line_bytes}
+use Rattle.ido_base.specs.Layout.{aligned, byte_number, line_bytes}
+use Rattle.log_schemes.specs.Layout.{in_range}
 use Rattle.ido_ints.specs.declared.kinds.Kind.{Kind}
 use Rattle.rv64_isa.specs.declared.instr.Instr.{Instr}
 use Rattle.rv64_isa.specs.declared.object.Slot.{Slot}
 use Rattle.rv64_isa.specs.declared.object.Slot.TheVariants.{Row}
-use Rattle.rv64_isa.specs.declared.phase.Phase.TheVariants.{Run}
+use Rattle.machine_model.specs.declared.phase.Phase.TheVariants.{Run}
 use Rattle.rv64_isa.specs.Rows.{Effect, Stores, Cleans, row}
 use Rattle.rv64_isa.specs.Programs.{fetched}
-use Rattle.rv64_isa.specs.Machine.{Hart, World, queue_limit, after_event, after_events}
-use Rattle.rv64_isa.specs.Frames.{IsWellFormedWorld}
+use Rattle.machine_model.specs.Machine.{Hart, World, queue_limit, after_event, after_events}
+use Rattle.machine_model.specs.Frames.{IsWellFormedWorld}
 use Rattle.recovery_semantics.specs.ElementHistories.{History, ArePersisted, history_at}
 use Rattle.recovery_semantics.specs.VariableSpots.{Spot, memory_in, IsAtSpot}
 

@@ -1,10 +1,11 @@
 -- The variables of a program in the words of a machine.
 use Rattle.std.specs.Prelude.{◌≡◌, ℕ, ◌+◌, ◌*◌, ◌<◌, ◌≤◌, List, [], ◌∷◌, length, map, slice_get, slice_index, Some, true}
-use Rattle.ido_base.specs.declared.log.Log.{Log}
+use Rattle.log_schemes.specs.declared.log.Log.{Log}
 use Rattle.ido_base.specs.declared.location.Shape.{Shape}
-use Rattle.ido_base.specs.declared.event.Event.TheVariants.{Crash}
+use Rattle.machine_events.specs.declared.event.Event.TheVariants.{Crash}
 use Rattle.ido_base.specs.Words.{Word, word_at, durable_value}
-use Rattle.ido_base.specs.Layout.{variable_at, variable_lines, byte_number, in_range, aligned, end_from, spread_words}
+use Rattle.ido_base.specs.Layout.{variable_at, variable_lines, byte_number, aligned, end_from, spread_words}
+use Rattle.log_schemes.specs.Layout.{in_range}
 use Rattle.ido_ints.specs.Kinds.{bytes_of}
 use Rattle.c_tree.specs.Programs.{Variable}
 use Rattle.c_tree.specs.Flats as f
@@ -12,7 +13,7 @@ use Rattle.c_tree.specs.WellFormed.{shape_of, elements_in, IsWellFormed, initial
 use Rattle.c_tree.specs.Source.{start}
 use Rattle.memory_layout.specs.Variables.{HaveRoom, AreCounted, AreInitial}
 use Rattle.rv64_isa.specs.declared.object.Slot.{Slot}
-use Rattle.rv64_isa.specs.Machine.{World, start_of, after_crash_of, after_event}
+use Rattle.machine_model.specs.Machine.{World, start_of, after_crash_of, after_event}
 use Rattle.recovery_semantics.specs.ElementHistories.{memory_of, crashed}
 use Rattle.recovery_semantics.specs.VariableSpots.{Spot, memory_in, IsAtSpot, AreSpotsApart}
 

@@ -1,8 +1,8 @@
 -- Names for the pieces of the code of boundaries and constants. What they do is said in Boundaries and Straight.
 use Rattle.std.specs.Prelude.{ℕ, ◌+◌, ◌*◌, ◌/◌, ◌%◌, ◌^◌, List, [], ◌∷◌, ◌++◌, Bool, true, false}
-use Rattle.ido_base.specs.declared.log.Log.{Log}
-use Rattle.ido_base.specs.declared.log.Log.TheVariants.{V1, V2}
-use Rattle.ido_base.specs.Layout.{bank_bytes}
+use Rattle.log_schemes.specs.declared.log.Log.{Log}
+use Rattle.log_schemes.specs.declared.log.Log.TheVariants.{V1, V2}
+use Rattle.log_schemes.specs.Layout.{bank_bytes}
 use Rattle.rv64_isa.specs.declared.instr.Instr.{Instr}
 use Rattle.rv64_isa.specs.declared.instr.Instr.TheVariants.{Auipc, Store, OpImmediate, ShiftImmediate, Op, CboClean, Fence}
 use Rattle.rv64_isa.specs.declared.instr.Operation.TheVariants.{Add}

@@ -2,7 +2,7 @@
 use Rattle.std.specs.Prelude.{◌≡◌, List}
 use Rattle.ido_base.specs.Words.{Word}
 use Rattle.line_memory.specs.links.Queues.{RepresentsQueue}
-use Rattle.rv64_isa.specs.Machine.{Hart as HartModel}
+use Rattle.machine_model.specs.Machine.{Hart as HartModel}
 use Rattle.hart_core.specs.declared.hart.Hart.{Hart}
 
 -- the hart has these registers, this pc and this queue

@@ -1,8 +1,9 @@
 -- Why an access is refused.
 use Rattle.std.specs.Prelude.{ℕ, Option, Some, None, if◌then◌else◌}
-use Rattle.ido_base.specs.declared.event.Cause.{Cause}
-use Rattle.ido_base.specs.declared.event.Cause.TheVariants.{Outside, Unaligned}
-use Rattle.ido_base.specs.Layout.{in_range, aligned}
+use Rattle.machine_events.specs.declared.event.Cause.{Cause}
+use Rattle.machine_events.specs.declared.event.Cause.TheVariants.{Outside, Unaligned}
+use Rattle.ido_base.specs.Layout.{aligned}
+use Rattle.log_schemes.specs.Layout.{in_range}
 use Rattle.line_memory.specs.links.MemoryRepresentation.{Logs}
 
 -- why an access of so many bytes is refused, if it is

@@ -1,8 +1,8 @@
 -- What runs in threads, before and after.
 use Rattle.std.specs.Prelude.{◌≡◌, ℕ, zero, suc, ◌+◌, ◌<◌, ◌≤◌, List, [], ◌∷◌, ◌++◌, All, Option}
 use Rattle.std.specs.Vec.{vec_capacity}
-use Rattle.ido_base.specs.declared.event.Event.{Event}
-use Rattle.ido_base.specs.declared.event.Event.TheVariants.{Evict}
+use Rattle.machine_events.specs.declared.event.Event.{Event}
+use Rattle.machine_events.specs.declared.event.Event.TheVariants.{Evict}
 use Rattle.hart_board.specs.declared.board.Board.{Board}
 use Rattle.hart_board.specs.declared.core_turn.Ahead.{Ahead}
 use Rattle.hart_board.specs.declared.seat.Seat.{Seat}

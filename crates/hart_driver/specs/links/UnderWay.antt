@@ -1,7 +1,7 @@
 -- A leg that is under way.
 use Rattle.std.specs.Prelude.{◌≡◌, ℕ, ◌+◌, ◌<◌, ◌≤◌, List, ◌∷◌, ◌++◌, [], length, map, drop, true, Option, Some, slice_index}
-use Rattle.ido_base.specs.declared.event.Event.{Event}
-use Rattle.ido_base.specs.Cores.{Behaviour, IsValid}
+use Rattle.machine_events.specs.declared.event.Event.{Event}
+use Rattle.machine_events.specs.Cores.{Behaviour, IsValid}
 use Rattle.hart_board.specs.BoardRule.{numbers_from}
 use Rattle.hart_board.specs.CoreTurns.{IsPlayed}
 use Rattle.hart_driver.specs.declared.start.Start.{Start}

@@ -7,7 +7,7 @@ use Rattle.image_checks.specs.declared.error.ImageError.{ImageError}
 use Rattle.image_checks.specs.declared.error.ImageError.TheVariants as e
 use Rattle.crash_images.specs.declared.version.ImageVersion.{ImageVersion}
 use Rattle.ido_cli.specs.declared.compiled_image.Begun.{Begun}
-use Rattle.ido_base.specs.declared.log.Log.TheVariants.{V2}
+use Rattle.log_schemes.specs.declared.log.Log.TheVariants.{V2}
 use Rattle.ido_compile.specs.declared.error.CompileError.{CompileError}
 use Rattle.ido_compile.specs.CompileAnswers.{IsCompileAnswerAs}
 use Rattle.ido_cli.specs.CompiledImages.{BeginsCompiled, IsImageAnswer}

@@ -3,7 +3,7 @@ use Rattle.std.specs.Prelude.{◌≡◌, ℕ, ◌<◌, length}
 use Rattle.c_tree.specs.Flats.{Flat}
 use Rattle.c_tree.specs.Source.{start}
 use Rattle.source_machine.specs.Lives.{ended_lives}
-use Rattle.rv64_isa.specs.Schedule.{schedules}
+use Rattle.machine_model.specs.Schedule.{schedules}
 use Rattle.run_tracker.specs.ObjectLives.{Course, ended_sections, steps_in}
 
 -- the life has a hart for each thread, and has counted as many sections of it as the source ends by the kept schedules

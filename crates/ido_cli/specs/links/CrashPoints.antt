@@ -1,8 +1,8 @@
 -- The points of a script at which power may be lost, and what a life comes to from there.
 use Rattle.std.specs.Prelude.{◌≡◌, ℕ, ◌≤◌, List, [], ◌∷◌, ◌++◌, length, map, take, All, Option, Some, None, Result, Ok, Err}
-use Rattle.ido_base.specs.declared.event.Event.{Event}
-use Rattle.ido_base.specs.declared.event.Event.TheVariants.{Crash}
-use Rattle.ido_base.specs.Cores.{played}
+use Rattle.machine_events.specs.declared.event.Event.{Event}
+use Rattle.machine_events.specs.declared.event.Event.TheVariants.{Crash}
+use Rattle.machine_events.specs.Cores.{played}
 use Rattle.c_tree.specs.Flats.{flat_of}
 use Rattle.compiler_correctness.specs.Compilations.{IsCompilation}
 use Rattle.flat_compile.specs.TranslatedForms.{IsTranslated}
@@ -10,7 +10,7 @@ use Rattle.hart_driver.specs.declared.sweep.Outcome.{Outcome}
 use Rattle.c_tree.specs.declared.flat.Flat.{Flat}
 use Rattle.flat_compile.specs.declared.compile.Translated.{Translated}
 use Rattle.compiler_correctness.specs.Translations.{Translation, translation_to}
-use Rattle.rv64_isa.specs.Machine.{IsEviction}
+use Rattle.machine_model.specs.Machine.{IsEviction}
 use Rattle.run_scripts.specs.declared.few.Excess.{Excess}
 use Rattle.run_scripts.specs.declared.script.Script.{Script}
 use Rattle.ido_base.specs.declared.limits.TheConstants.{MOST_EVENTS}

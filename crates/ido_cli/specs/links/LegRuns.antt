@@ -1,19 +1,19 @@
 -- A life that runs legs on threads, and rounds after them.
 use Rattle.std.specs.Prelude.{◌≡◌, ℕ, ◌+◌, ◌-◌, ◌<◌, ◌≤◌, ◌^◌, List, [], ◌∷◌, ◌++◌, length, count_by, drop, min, flat_map, All, Option, Some, true, false, Bool}
 use Rattle.std.specs.Prelude.{ℤ, pos, neg_ℤ, ◌≤ℤ◌}
-use Rattle.ido_base.specs.declared.event.Event.{Event}
-use Rattle.ido_base.specs.declared.event.Event.TheVariants.{Crash}
+use Rattle.machine_events.specs.declared.event.Event.{Event}
+use Rattle.machine_events.specs.declared.event.Event.TheVariants.{Crash}
 use Rattle.ido_base.specs.declared.limits.TheConstants.{MOST_THREADS, MOST_VARIABLE_BYTES}
 use Rattle.c_tree.specs.Flats.{Flat}
 use Rattle.compiler_correctness.specs.Translations.{Translation}
-use Rattle.rv64_isa.specs.Machine.{IsEviction}
+use Rattle.machine_model.specs.Machine.{IsEviction}
 use Rattle.hart_driver.specs.Driven.{HasAdvanced, evictions_of as coming_of, leg_of}
 use Rattle.hart_driver.specs.Legs.{Leg, IsLeg}
 use Rattle.run_scripts.specs.declared.evictor.Evictor.{Evictor}
 use Rattle.run_scripts.specs.Reports.{ReportedState, numbers_in}
 use Rattle.run_scripts.specs.links.Evictors.{evictions_of}
 use Rattle.run_scripts.specs.Journals.{journal_text}
-use Rattle.rv64_isa.specs.Schedule.{schedules}
+use Rattle.machine_model.specs.Schedule.{schedules}
 use Rattle.run_tracker.specs.ObjectLives.{Course, LifeConfig, living, opening_of, steps_in, world_of}
 use Rattle.ido_cli.specs.declared.live.Run.{Run}
 use Rattle.ido_cli.specs.Answers.{IsTold}

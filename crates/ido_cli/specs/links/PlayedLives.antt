@@ -1,8 +1,8 @@
 -- A life on which events were played.
 use Rattle.std.specs.Prelude.{◌≡◌, List}
-use Rattle.ido_base.specs.declared.event.Event.{Event}
+use Rattle.machine_events.specs.declared.event.Event.{Event}
 use Rattle.rv64_isa.specs.declared.object.Marks.{Marks}
-use Rattle.rv64_isa.specs.declared.object.Object.{Object}
+use Rattle.machine_model.specs.declared.object.Object.{Object}
 use Rattle.run_tracker.specs.ObjectLives.{Course, new_life, opening_of}
 
 -- the life began with the object, and has had these events

@@ -1,8 +1,8 @@
 -- The life that went on from an image's file, after a leg, and of which an image of the newest version may be made.
 use Rattle.std.specs.Prelude.{◌≡◌, ℕ, ◌+◌, ◌<◌, ◌≤◌, ◌^◌, [], length, sum_by, None}
 use Rattle.ido_base.specs.declared.limits.TheConstants.{MOST_STEPS}
-use Rattle.rv64_isa.specs.Frames.{IsWellFormedWorld}
-use Rattle.rv64_isa.specs.Schedule.{schedules}
+use Rattle.machine_model.specs.Frames.{IsWellFormedWorld}
+use Rattle.machine_model.specs.Schedule.{schedules}
 use Rattle.c_tree.specs.Flats.{flat_of}
 use Rattle.flat_compile.specs.TranslatedForms.{IsTranslatedAs}
 use Rattle.ido_compile.specs.declared.compiler.Compiled.{Compiled}

@@ -1,6 +1,6 @@
 -- What is asked of the run of a script, and of a source alone.
 use Rattle.std.specs.Prelude.{ℕ, List}
-use Rattle.ido_base.specs.declared.event.Event.{Event}
+use Rattle.machine_events.specs.declared.event.Event.{Event}
 use Rattle.compiler_correctness.specs.Translations.{Translation}
 use Rattle.ido_cli.specs.declared.command.Command.{Command}
 use Rattle.ido_cli.specs.declared.command.Command.TheVariants as command

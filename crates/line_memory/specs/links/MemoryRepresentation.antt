@@ -1,8 +1,8 @@
 -- What a memory represents.
 use Rattle.std.specs.Prelude.{◌≡◌, ℕ, ◌<◌, List, length}
-use Rattle.ido_base.specs.declared.log.Log.{Log}
+use Rattle.log_schemes.specs.declared.log.Log.{Log}
 use Rattle.ido_base.specs.Words.{Word, word_at}
-use Rattle.ido_base.specs.Layout.{word_count}
+use Rattle.log_schemes.specs.Layout.{word_count}
 use Rattle.line_memory.specs.links.Cells.{CellsStand}
 use Rattle.line_memory.specs.ChangedWords.{HasChanged}
 use Rattle.line_memory.specs.declared.memory.LineMemory.{LineMemory}

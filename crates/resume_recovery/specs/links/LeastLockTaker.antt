@@ -1,7 +1,7 @@
 -- The least of some harts that takes locks.
 use Rattle.std.specs.Prelude.{ℕ, ◌+◌, List, [], ◌∷◌, Option, Some, None, if◌then◌else◌}
-use Rattle.rv64_isa.specs.declared.phase.Phase.{Phase}
-use Rattle.rv64_isa.specs.Machine.{is_taking}
+use Rattle.machine_model.specs.declared.phase.Phase.{Phase}
+use Rattle.machine_model.specs.Machine.{is_taking}
 
 -- the least hart that takes locks, from the number on
 abbrev pub taking_among : (at : ℕ) → List Phase → Option ℕ

@@ -1,7 +1,7 @@
 -- What is read of a point.
 use Rattle.std.specs.Prelude.{ℕ}
-use Rattle.memory_layout.specs.declared.point.Point.{Point}
-use Rattle.memory_layout.specs.declared.point.Point.TheVariants.{Idle, At}
+use Rattle.log_schemes.specs.declared.point.Point.{Point}
+use Rattle.log_schemes.specs.declared.point.Point.TheVariants.{Idle, At}
 
 -- the bank of a point; the first where it is idle
 abbrev pub bank_in : Point → ℕ

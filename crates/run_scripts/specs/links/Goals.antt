@@ -1,7 +1,7 @@
 -- What a hart is stepped to by a line `b` or `f`.
 use Rattle.std.specs.Prelude.{ℕ, Bool}
-use Rattle.ido_base.specs.declared.event.Event.{Event}
-use Rattle.ido_base.specs.Cores.{Behaviour}
+use Rattle.machine_events.specs.declared.event.Event.{Event}
+use Rattle.machine_events.specs.Cores.{Behaviour}
 use Rattle.run_scripts.specs.declared.play.Goal.{Goal}
 use Rattle.run_scripts.specs.declared.play.Goal.TheVariants as g
 

@@ -1,7 +1,7 @@
 -- Steps of one hart that follow one another.
 use Rattle.std.specs.Prelude.{ℕ, Bool, false, ◌==◌}
-use Rattle.ido_base.specs.declared.event.Event.{Event}
-use Rattle.ido_base.specs.declared.event.Event.TheVariants.{Step, Evict, Crash, Start}
+use Rattle.machine_events.specs.declared.event.Event.{Event}
+use Rattle.machine_events.specs.declared.event.Event.TheVariants.{Step, Evict, Crash, Start}
 
 abbrev pub is_step_of : (hart : ℕ) → Event → Bool
 is_step_of hart (Step other) = other == hart

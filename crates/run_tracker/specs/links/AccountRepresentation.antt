@@ -1,10 +1,11 @@
 -- What the account of begun and kept steps represents.
 use Rattle.std.specs.Prelude.{◌≡◌, ℕ, zero, suc, ◌+◌, ◌<◌, ◌≤◌, List, [], ◌∷◌, ◌++◌, length, slice_index, slice_index_or, drop, replicate, sum_by}
 use Rattle.std.specs.Prelude.{Bool, true, false, ◌==◌, if◌then◌else◌}
-use Rattle.ido_base.specs.declared.log.Log.{Log}
+use Rattle.log_schemes.specs.declared.log.Log.{Log}
 use Rattle.ido_base.specs.Words.{Word, word_at, last_position}
-use Rattle.ido_base.specs.Layout.{word_number, point_at}
-use Rattle.rv64_isa.specs.Schedule.{Steps, HartSteps, Bound, hart_steps, no_steps}
+use Rattle.ido_base.specs.Layout.{word_number}
+use Rattle.log_schemes.specs.Layout.{point_at}
+use Rattle.machine_model.specs.Schedule.{Steps, HartSteps, Bound, hart_steps, no_steps}
 use Rattle.run_tracker.specs.declared.account.PointStore.{PointStore}
 use Rattle.run_tracker.specs.declared.account.OpenSteps.{OpenSteps}
 use Rattle.run_tracker.specs.declared.account.Account.{Account}

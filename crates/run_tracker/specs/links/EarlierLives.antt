@@ -1,7 +1,7 @@
 -- The schedules that are kept when a life begins, as vectors: those of the lives before, and that of the life that goes on.
 use Rattle.std.specs.Prelude.{Vec, ℕ, ◌+◌, List, length, flat_map, map}
 use Rattle.std.specs.Global.{Global}
-use Rattle.rv64_isa.specs.Schedule.{LifeSchedules}
+use Rattle.machine_model.specs.Schedule.{LifeSchedules}
 
 -- of each step the hart that takes it
 abbrev pub schedule_in : Vec ℕ Global → List ℕ

@@ -1,8 +1,8 @@
 -- What the fields of a journal represent.
 use Rattle.std.specs.Prelude.{◌≡◌, ◌+◌, ◌<◌, ◌≤◌, ◌^◌, ℕ, List, [], ◌∷◌, ◌++◌, flat_map, length, replicate}
 use Rattle.std.specs.Vec.{vec_capacity}
-use Rattle.ido_base.specs.declared.event.Event.{Event}
-use Rattle.ido_base.specs.declared.event.Event.TheVariants as events
+use Rattle.machine_events.specs.declared.event.Event.{Event}
+use Rattle.machine_events.specs.declared.event.Event.TheVariants as events
 use Rattle.run_tracker.specs.declared.journal.Entry.{Entry}
 use Rattle.run_tracker.specs.declared.journal.Entry.TheVariants.{Steps, Evict, Crash, Start}
 use Rattle.run_tracker.specs.declared.journal.Journal.TheInside.{Inside}

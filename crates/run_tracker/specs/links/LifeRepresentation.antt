@@ -2,14 +2,14 @@
 use Rattle.std.specs.Prelude.{Vec, ◌≡◌, ℕ, ◌+◌, ◌/◌, ◌<◌, ◌≤◌, ◌^◌, List, length, slice_index, Option, Some, None}
 use Rattle.std.specs.Global.{Global}
 use Rattle.std.specs.Vec.{vec_capacity, vec_len}
-use Rattle.ido_base.specs.declared.log.Log.{Log}
-use Rattle.ido_base.specs.Cores.{point_stores, finished_fences}
+use Rattle.log_schemes.specs.declared.log.Log.{Log}
+use Rattle.machine_events.specs.Cores.{point_stores, finished_fences}
 use Rattle.ido_base.specs.Layout.{spread_words}
 use Rattle.ido_base.specs.declared.limits.TheConstants.{MOST_VARIABLE_BYTES}
 use Rattle.rv64_isa.specs.declared.object.Slot.{Slot}
-use Rattle.rv64_isa.specs.Executables.{Executable, node_marks, resume_marks}
-use Rattle.rv64_isa.specs.Machine.{World, start_of, after_crash_of}
-use Rattle.rv64_isa.specs.Frames.{IsWellFormedWorld}
+use Rattle.machine_model.specs.Executables.{Executable, node_marks, resume_marks}
+use Rattle.machine_model.specs.Machine.{World, start_of, after_crash_of}
+use Rattle.machine_model.specs.Frames.{IsWellFormedWorld}
 use Rattle.ido_machine.specs.Machines.{RepresentsMachine, program_in, log_by, events_of}
 use Rattle.run_tracker.specs.declared.life.Life.TheInside.{Inside}
 use Rattle.run_tracker.specs.links.AccountRepresentation.{AccountInv, AreOpen, AreOrdered, ends_from, weight}

@@ -1,8 +1,8 @@
 -- What the fields of a local run represent.
 use Rattle.std.specs.Prelude.{◌≡◌, ℕ, zero, suc, ◌+◌, ◌<◌, ◌≤◌, List, Option, Some, None, ◌==◌, if◌then◌else◌}
 use Rattle.std.specs.List.{list_any}
-use Rattle.rv64_isa.specs.declared.phase.Phase.TheVariants.{Run}
-use Rattle.rv64_isa.specs.Schedule.{Steps, with_begun}
+use Rattle.machine_model.specs.declared.phase.Phase.TheVariants.{Run}
+use Rattle.machine_model.specs.Schedule.{Steps, with_begun}
 use Rattle.hart_core.specs.declared.local.LocalState.{LocalState}
 use Rattle.hart_core.specs.LocalSteps.{PlacedCode, local_run}
 use Rattle.run_tracker.specs.declared.local.LocalRun.TheInside.{Inside}

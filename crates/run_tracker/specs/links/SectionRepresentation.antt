@@ -1,8 +1,8 @@
 -- What the sections of harts represent.
 use Rattle.std.specs.Prelude.{◌≡◌, ℕ, ◌+◌, ◌<◌, length, slice_index_or, not, ◌&&◌, ◌==◌, if◌then◌else◌}
 use Rattle.ido_base.specs.Words.{word_at}
-use Rattle.rv64_isa.specs.Machine.{World, durable_point}
-use Rattle.rv64_isa.specs.Schedule.{Steps, hart_steps}
+use Rattle.machine_model.specs.Machine.{World, durable_point}
+use Rattle.machine_model.specs.Schedule.{Steps, hart_steps}
 use Rattle.run_tracker.specs.links.AccountRepresentation.{AllFrom, point_word}
 use Rattle.run_tracker.specs.declared.sections.HartSections.{HartSections}
 use Rattle.run_tracker.specs.declared.sections.Sections.{Sections}

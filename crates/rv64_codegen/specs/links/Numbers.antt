@@ -1,10 +1,10 @@
 -- Code of the numbers of locks, in boundaries and for calls.
 use Rattle.std.specs.Prelude.{◌≡◌, ℕ, ◌*◌, ◌<◌, ◌≤◌, List, [], ◌∷◌, ◌++◌, length, Option, Some, None}
 use Rattle.std.specs.List.{AllZip}
-use Rattle.ido_base.specs.Layout.{log_of}
+use Rattle.log_schemes.specs.Layout.{log_of}
 use Rattle.ido_base.specs.declared.limits.TheConstants.{MOST_PRICE, MOST_TEMPORARIES}
-use Rattle.ido_base.specs.declared.log.Log.{Log}
-use Rattle.ido_base.specs.declared.log.Log.TheVariants.{V1, V2}
+use Rattle.log_schemes.specs.declared.log.Log.{Log}
+use Rattle.log_schemes.specs.declared.log.Log.TheVariants.{V1, V2}
 use Rattle.c_tree.specs.Exprs as e
 use Rattle.c_tree.specs.Prices.{need_of, node_price, nodes_of}
 use Rattle.rv64_isa.specs.declared.instr.Instr.{Instr}

@@ -5,8 +5,8 @@ use Rattle.std.specs.Int.{cast_signed, cast_unsigned, w32}
 use Rattle.std.proofs.lemmas.Int.{to_z-of_z}
 use Rattle.std.proofs.lemmas.List.{length-map}
 use Rattle.std.proofs.lemmas.Result.{IfOk-weaker}
-use Rattle.ido_base.specs.declared.log.Log.TheVariants.{V2}
-use Rattle.ido_base.specs.Layout.{log_of}
+use Rattle.log_schemes.specs.declared.log.Log.TheVariants.{V2}
+use Rattle.log_schemes.specs.Layout.{log_of}
 use Rattle.rv64_isa.specs.declared.instr.Instr.{Instr}
 use Rattle.rv64_isa.specs.Signed.{twos_complement}
 use Rattle.operator_code.specs.StraightLineCode.{IsConstant}

@@ -1,5 +1,5 @@
 use Rattle.std.proofs.Common.{◌≡◌, ◌<◌, ◌+◌, ◌-◌, ◌++◌, ◌∷◌, ℕ, suc, List, [], ap, ◌∙◌, append_assoc, arith}
-use Rattle.rv64_isa.specs.Machine.{numbers_from}
+use Rattle.machine_model.specs.Machine.{numbers_from}
 use Rattle.boundary_code.proofs.code.slots_in_use.Goals as goal
 
 -- one slot more

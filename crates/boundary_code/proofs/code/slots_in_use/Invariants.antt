@@ -1,5 +1,5 @@
 use Rattle.std.proofs.Common.{◌≡◌, ◌+◌, ◌-◌, ◌++◌, ◌∷◌, drop}
-use Rattle.rv64_isa.specs.Machine.{numbers_from}
+use Rattle.machine_model.specs.Machine.{numbers_from}
 use Rattle.boundary_code.proofs.code.slots_in_use.Given as goal
 
 abbrev pub invariant-loop-lock : goal.invariant-loop-lock

@@ -5,7 +5,7 @@ use Rattle.std.proofs.lemmas.List.{length-map}
 use Rattle.rv64_isa.specs.declared.object.ThreadMarks.{ThreadMarks}
 use Rattle.rv64_codegen.specs.Plans.{plan_of}
 use Rattle.rv64_codegen.proofs.Public.{read_get}
-use Rattle.rv64_isa.specs.Executables.{resume_marks}
+use Rattle.machine_model.specs.Executables.{resume_marks}
 use Rattle.flat_compile.specs.declared.resumes.Resume.{Resume}
 use Rattle.flat_compile.specs.links.ResumePlacesByNode.{thread_in, IsOwn, AreTabled, AreFoundAt}
 use Rattle.flat_compile.proofs.Tables.{own_thread, nodes_own, many_coded, resumes_coded, tabled_more, as_many_threads, addresses_at}

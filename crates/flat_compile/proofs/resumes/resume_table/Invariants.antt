@@ -1,5 +1,5 @@
 use Rattle.rv64_codegen.specs.Plans.{plan_of}
-use Rattle.rv64_isa.specs.Executables.{resume_marks}
+use Rattle.machine_model.specs.Executables.{resume_marks}
 use Rattle.flat_compile.specs.links.ResumePlacesByNode.{AreTabled}
 use Rattle.flat_compile.proofs.resumes.resume_table.Given as goal
 

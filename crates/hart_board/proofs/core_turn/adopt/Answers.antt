@@ -1,7 +1,7 @@
 use Rattle.std.proofs.Common.{arith, sym, subst, ap, ◌∙◌, ◌++◌, replicate, Option, ℕ}
 use Rattle.std.proofs.lemmas.List.{length-replicate}
-use Rattle.ido_base.specs.declared.event.Event.TheVariants.{Step}
-use Rattle.ido_base.specs.Cores.{EachMoves}
+use Rattle.machine_events.specs.declared.event.Event.TheVariants.{Step}
+use Rattle.machine_events.specs.Cores.{EachMoves}
 use Rattle.hart_board.specs.declared.core_turn.Ahead.{Ahead}
 use Rattle.hart_board.specs.CoreTurns.{RunsIn}
 use Rattle.hart_board.proofs.MadeEvents.{adopts}

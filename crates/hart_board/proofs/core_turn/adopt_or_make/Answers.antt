@@ -1,6 +1,6 @@
 use Rattle.std.proofs.Common.{sym, subst, length, ◌+◌, ◌≤◌, replicate}
-use Rattle.ido_base.specs.declared.event.Event.{Event}
-use Rattle.ido_base.specs.Cores.{IsValid}
+use Rattle.machine_events.specs.declared.event.Event.{Event}
+use Rattle.machine_events.specs.Cores.{IsValid}
 use Rattle.hart_board.specs.CoreTurns.{IsPlayed, Makes, TurnGives, events_made}
 use Rattle.hart_board.proofs.MadeEvents.{gives_more, own_step}
 use Rattle.hart_board.proofs.core_turn.adopt_or_make.Goals as goal

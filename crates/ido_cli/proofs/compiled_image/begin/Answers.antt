@@ -1,7 +1,7 @@
 use Rattle.std.proofs.Common.{refl, subst}
 use Rattle.std.specs.Prelude.{Err}
 use Rattle.std.proofs.lemmas.Result.{err_from_is_err_and}
-use Rattle.ido_base.specs.declared.log.Log.{Log}
+use Rattle.log_schemes.specs.declared.log.Log.{Log}
 use Rattle.ido_compile.specs.CompileAnswers.{IsCompiledAs, IsCompileAnswerAs}
 use Rattle.ido_cli.proofs.CompiledImages.{compile_answer, source_answer, version_answer}
 use Rattle.ido_cli.proofs.compiled_image.begin.Goals as goal

@@ -2,8 +2,8 @@ use Rattle.std.proofs.Common.{ℕ, List, ◌++◌, ◌*◌, ap, sym, ◌∙◌, 
 use Rattle.std.specs.Prelude.{Err, Ok, Result, Vec}
 use Rattle.std.specs.Global.{Global}
 use Rattle.std.proofs.lemmas.Result.{err_from_is_err_and}
-use Rattle.ido_base.specs.Layout.{log_words}
-use Rattle.ido_base.specs.declared.log.Log.{Log}
+use Rattle.log_schemes.specs.Layout.{log_words}
+use Rattle.log_schemes.specs.declared.log.Log.{Log}
 use Rattle.c_tree.specs.Flats.{flat_of}
 use Rattle.crash_images.specs.Contents.{log_of}
 use Rattle.crash_images.specs.links.Views.{state_of}

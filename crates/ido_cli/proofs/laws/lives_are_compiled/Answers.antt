@@ -1,5 +1,5 @@
 use Rattle.std.proofs.Common.{refl, subst, sym}
-use Rattle.ido_base.specs.declared.log.Log.{Log}
+use Rattle.log_schemes.specs.declared.log.Log.{Log}
 use Rattle.c_tree.specs.Flats.{flat_of}
 use Rattle.flat_compile.specs.TranslatedForms.{IsTranslatedAs}
 use Rattle.run_tracker.specs.ObjectLives.{life_from}

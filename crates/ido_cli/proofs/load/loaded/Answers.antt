@@ -9,7 +9,7 @@ use Rattle.ido_cli.proofs.PlayedRuns.{as_many_threads, counts_sections, has_room
 use Rattle.ido_cli.proofs.Sums.{summable}
 use Rattle.ido_cli.proofs.ThreadedAnswers.{is_load, load_played}
 use Rattle.ido_cli.proofs.load.loaded.Goals as goal
-use Rattle.rv64_isa.specs.Schedule.{schedules}
+use Rattle.machine_model.specs.Schedule.{schedules}
 
 pub reported-requires-clause-counted : goal.reported-requires-clause-counted
 reported-requires-clause-counted g c =

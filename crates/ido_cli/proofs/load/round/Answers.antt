@@ -1,6 +1,6 @@
 use Rattle.std.proofs.Common.{◌≡◌, ℕ, ◌⊎◌, ◌<◌, ◌≤◌, ◌+◌, true, false, [], length, refl, ap, sym, ◌∙◌, ◌∷◌, ◌-◌, subst, arith, inl, inr, rules, length-append}
 use Rattle.std.proofs.lemmas.Bool.{ltb-false, ltb-true}
-use Rattle.ido_base.specs.declared.event.Event.TheVariants.{Step}
+use Rattle.machine_events.specs.declared.event.Event.TheVariants.{Step}
 use Rattle.run_tracker.specs.ObjectLives.{Course, LifeConfig, opening_of, with_event}
 use Rattle.ido_cli.specs.ThreadedRuns.{is_stopped_after}
 use Rattle.ido_cli.specs.links.LegRuns.{IsQuiet, LeadsTo, quiet, stopped}

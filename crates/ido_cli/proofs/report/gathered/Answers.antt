@@ -1,5 +1,5 @@
 use Rattle.std.proofs.Common.{map, rules}
-use Rattle.rv64_isa.specs.Schedule.{schedules}
+use Rattle.machine_model.specs.Schedule.{schedules}
 use Rattle.c_tree.specs.Flats.{flat_of}
 use Rattle.run_scripts.specs.links.ReportViews as views
 use Rattle.run_tracker.specs.ObjectLives.{steps_in, world_of}

@@ -1,5 +1,5 @@
 use Rattle.std.proofs.Common.{◌≡◌, map, take}
-use Rattle.rv64_isa.specs.Schedule.{schedules}
+use Rattle.machine_model.specs.Schedule.{schedules}
 use Rattle.run_scripts.specs.links.ReportViews.{steps_of}
 use Rattle.run_tracker.specs.ObjectLives.{steps_in}
 use Rattle.ido_cli.proofs.report.kept_schedules.Given as goal

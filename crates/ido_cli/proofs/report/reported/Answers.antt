@@ -1,8 +1,8 @@
 use Rattle.std.proofs.Common.{ℕ, arith, ap, length, map, ◌∙◌}
 use Rattle.c_tree.specs.Flats.{flat_of}
 use Rattle.c_tree.specs.Source as m
-use Rattle.rv64_isa.specs.Machine.{numbers_from}
-use Rattle.rv64_isa.specs.Schedule.{schedules}
+use Rattle.machine_model.specs.Machine.{numbers_from}
+use Rattle.machine_model.specs.Schedule.{schedules}
 use Rattle.source_machine.specs.Lives.{ended_lives}
 use Rattle.run_tracker.specs.ObjectLives.{ended_sections, steps_in}
 use Rattle.ido_cli.proofs.GatheredReports.{same_map}

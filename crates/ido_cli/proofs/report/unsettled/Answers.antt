@@ -1,5 +1,5 @@
 use Rattle.std.proofs.Common.{◌≡◌, ◌<◌, rules, true, false, not, length, arith}
-use Rattle.rv64_isa.specs.Machine.{is_settled_hart}
+use Rattle.machine_model.specs.Machine.{is_settled_hart}
 use Rattle.run_tracker.specs.ObjectLives.{world_of}
 use Rattle.ido_cli.specs.Reports.{unsettled_harts}
 use Rattle.ido_cli.proofs.GatheredReports.{filter_passed, filter_pushed, filter_whole}

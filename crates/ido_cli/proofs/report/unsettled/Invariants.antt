@@ -1,6 +1,6 @@
 use Rattle.std.proofs.Common.{◌≡◌, ◌++◌, ◌-◌, filter, length, not}
-use Rattle.rv64_isa.specs.Machine.{numbers_from}
-use Rattle.rv64_isa.specs.Machine.{is_settled_hart}
+use Rattle.machine_model.specs.Machine.{numbers_from}
+use Rattle.machine_model.specs.Machine.{is_settled_hart}
 use Rattle.run_tracker.specs.ObjectLives.{world_of}
 use Rattle.ido_cli.specs.Reports.{unsettled_harts}
 use Rattle.ido_cli.proofs.report.unsettled.Given as goal

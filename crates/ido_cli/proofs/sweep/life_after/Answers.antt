@@ -1,6 +1,6 @@
 use Rattle.std.proofs.Common.{◌≡◌, ◌++◌, ℕ, sym, ap, ◌∙◌, inl, length, map, subst, take}
 use Rattle.std.proofs.lemmas.List.{length-map}
-use Rattle.ido_base.specs.Cores.{played}
+use Rattle.machine_events.specs.Cores.{played}
 use Rattle.rv64_isa.specs.Programs.{slot_of}
 use Rattle.run_scripts.specs.Plays.{script_events}
 use Rattle.run_tracker.specs.ObjectLives.{Course, living, opening_of}

@@ -2,7 +2,7 @@ use Rattle.std.proofs.Common.{◌≤◌, ◌<◌, Bool, ap, subst, ◌∙◌, ar
 use Rattle.std.specs.Prelude.{MatchBool, sum_by}
 use Rattle.std.proofs.lemmas.Result.{IfOk-weaker}
 use Rattle.ido_base.specs.declared.limits.TheConstants.{MOST_STEPS}
-use Rattle.rv64_isa.specs.Schedule.{schedules}
+use Rattle.machine_model.specs.Schedule.{schedules}
 use Rattle.run_tracker.specs.ObjectLives.{steps_in}
 use Rattle.crash_images.specs.Contents.{Contents}
 use Rattle.crash_images.specs.ImageDecoder.{IsReadAs}

@@ -1,8 +1,8 @@
 use Rattle.std.proofs.Common.{◌≡◌, ℕ, ◌<◌, List, get_or, length}
 use Rattle.ido_base.specs.Words.{Word}
 use Rattle.line_memory.specs.links.MemoryRepresentation.{Represents}
-use Rattle.rv64_isa.specs.declared.phase.Phase.TheVariants.{Done}
-use Rattle.rv64_isa.specs.Machine.{phase_after_crash, durable_point}
+use Rattle.machine_model.specs.declared.phase.Phase.TheVariants.{Done}
+use Rattle.machine_model.specs.Machine.{phase_after_crash, durable_point}
 use Rattle.ido_machine.proofs.harts.set_phases.Given as goal
 
 abbrev pub invariant-loop-thread : goal.invariant-loop-thread

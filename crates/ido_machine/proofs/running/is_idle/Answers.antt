@@ -1,7 +1,7 @@
 use Rattle.std.proofs.Common.{◌≡◌, ◌<◌, length, ap, sym, ◌∙◌, arith}
-use Rattle.ido_base.specs.Cores.{is_idle}
-use Rattle.rv64_isa.specs.declared.phase.Phase.TheVariants.{Take, Run}
-use Rattle.rv64_isa.specs.Machine.{Outcome}
+use Rattle.machine_events.specs.Cores.{is_idle}
+use Rattle.machine_model.specs.declared.phase.Phase.TheVariants.{Take, Run}
+use Rattle.machine_model.specs.Machine.{Outcome}
 use Rattle.resume_recovery.specs.RecoverySteps.{phase_at}
 use Rattle.resume_recovery.proofs.Public.{phase_read}
 use Rattle.ido_machine.proofs.MachineEvents.{phase_there, run_idle, stepped-is}

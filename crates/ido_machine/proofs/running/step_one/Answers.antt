@@ -1,10 +1,10 @@
 use Rattle.std.proofs.Common.{◌<◌, List, length, slice_set, get_or, refl, sym, subst, ◌∙◌, arith}
-use Rattle.rv64_isa.specs.declared.phase.Phase.{Phase}
-use Rattle.rv64_isa.specs.declared.phase.Phase.TheVariants.{Take}
+use Rattle.machine_model.specs.declared.phase.Phase.{Phase}
+use Rattle.machine_model.specs.declared.phase.Phase.TheVariants.{Take}
 use Rattle.hart_core.specs.declared.hart.Hart.{Hart}
 use Rattle.hart_core.specs.StepsOnParts.{Parts}
-use Rattle.rv64_isa.specs.Machine.{happens}
-use Rattle.ido_base.specs.declared.event.Event.TheVariants.{Step}
+use Rattle.machine_model.specs.Machine.{happens}
+use Rattle.machine_events.specs.declared.event.Event.TheVariants.{Step}
 use Rattle.resume_recovery.specs.RecoverySteps.{phase_at}
 use Rattle.resume_recovery.proofs.Public.{phase_read}
 use Rattle.ido_machine.specs.Machines.{MachineState, StateEnds}

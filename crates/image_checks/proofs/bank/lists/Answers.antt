@@ -1,7 +1,7 @@
 use Rattle.std.proofs.Common.{◌+◌, ℕ, sym}
 use Rattle.std.specs.Prelude.{slice_index}
 use Rattle.std.proofs.lemmas.Bool.{eqb-true}
-use Rattle.ido_base.specs.declared.log.Log.TheVariants.{V2}
+use Rattle.log_schemes.specs.declared.log.Log.TheVariants.{V2}
 use Rattle.image_checks.specs.Logs.{logs_of, slot_in}
 use Rattle.image_checks.proofs.Masks.{one_listed}
 use Rattle.image_checks.proofs.bank.lists.Goals as goal

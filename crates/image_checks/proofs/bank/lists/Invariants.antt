@@ -1,5 +1,5 @@
 use Rattle.std.proofs.Common.{◌↔◌, ◌+◌, ℕ, drop}
-use Rattle.ido_base.specs.declared.log.Log.TheVariants.{V2}
+use Rattle.log_schemes.specs.declared.log.Log.TheVariants.{V2}
 use Rattle.image_checks.specs.Logs.{AreFrom, logs_of, slot_in}
 use Rattle.image_checks.proofs.bank.lists.Given as goal
 

@@ -1,6 +1,6 @@
 use Rattle.std.proofs.Common.{◌≡◌, ◌≤◌, ◌+◌, ◌*◌, ◌∙◌, ℕ, ap, length, subst, sym}
-use Rattle.ido_base.specs.declared.log.Log.{Log}
-use Rattle.ido_base.specs.Layout.{log_words}
+use Rattle.log_schemes.specs.declared.log.Log.{Log}
+use Rattle.log_schemes.specs.Layout.{log_words}
 use Rattle.ido_base.specs.Locks.{has_lock, locks_in}
 use Rattle.image_checks.specs.Logs.{logs_of, slot_in, slot_locks}
 use Rattle.image_checks.proofs.logs.bank_has.Goals as goal

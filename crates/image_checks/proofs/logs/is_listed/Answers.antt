@@ -1,8 +1,8 @@
 use Rattle.std.proofs.Common.{◌≡◌, ◌+◌, ◌-◌, ◌∙◌, ℕ, List, ap, map, sym, arith, true}
 use Rattle.std.specs.Prelude.{◌==◌, min}
-use Rattle.ido_base.specs.declared.log.Log.TheVariants.{V2}
+use Rattle.log_schemes.specs.declared.log.Log.TheVariants.{V2}
 use Rattle.ido_base.specs.Locks.{has_lock}
-use Rattle.rv64_isa.specs.Machine.{numbers_from}
+use Rattle.machine_model.specs.Machine.{numbers_from}
 use Rattle.image_checks.specs.Logs.{logs_of, slot_in}
 use Rattle.image_checks.proofs.Masks.{found_next, none_left, not_next, taken}
 use Rattle.image_checks.proofs.logs.is_listed.Goals as goal

@@ -1,7 +1,7 @@
 use Rattle.std.proofs.Common.{◌≡◌, ◌+◌, ◌-◌, map}
-use Rattle.ido_base.specs.declared.log.Log.TheVariants.{V2}
+use Rattle.log_schemes.specs.declared.log.Log.TheVariants.{V2}
 use Rattle.ido_base.specs.Locks.{has_lock}
-use Rattle.rv64_isa.specs.Machine.{numbers_from}
+use Rattle.machine_model.specs.Machine.{numbers_from}
 use Rattle.image_checks.specs.Logs.{logs_of, slot_in, slot_locks}
 use Rattle.image_checks.proofs.logs.is_listed.Given as goal
 

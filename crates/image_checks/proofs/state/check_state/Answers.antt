@@ -2,7 +2,7 @@ use Rattle.std.proofs.Common.{◌≡◌, ◌*◌, ◌<◌, ◌≤◌, ◌∙◌,
 use Rattle.std.specs.Prelude.{Vec}
 use Rattle.std.specs.Global.{Global}
 use Rattle.std.proofs.lemmas.Result.{err_from_is_err_and}
-use Rattle.ido_base.specs.Layout.{log_words}
+use Rattle.log_schemes.specs.Layout.{log_words}
 use Rattle.c_tree.specs.Flats.{flat_of}
 use Rattle.c_tree.specs.Source.{start}
 use Rattle.image_checks.specs.Schedules.{AreSchedules, schedules_of}

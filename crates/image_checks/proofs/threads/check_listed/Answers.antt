@@ -1,6 +1,6 @@
 use Rattle.std.proofs.Common.{ℕ, inr, refl, subst, sym}
 use Rattle.std.proofs.lemmas.Result.{err_from_is_err_and}
-use Rattle.ido_base.specs.declared.log.Log.TheVariants.{V2}
+use Rattle.log_schemes.specs.declared.log.Log.TheVariants.{V2}
 use Rattle.c_tree.specs.Flats.{flat_of}
 use Rattle.image_checks.specs.Checks.{other_locks}
 use Rattle.image_checks.specs.Logs.{AreOnce, Lists, logs_of, slot_in}

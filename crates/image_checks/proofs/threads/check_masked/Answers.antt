@@ -1,7 +1,7 @@
 use Rattle.std.proofs.Common.{◌<◌, ◌^◌, ◌∙◌, ℕ, List, inl, ap, subst, sym}
 use Rattle.std.proofs.lemmas.Bool.{eq-eqb, eqb-true, true≢false}
 use Rattle.ido_base.specs.Locks.{mask_with}
-use Rattle.ido_base.specs.declared.log.Log.TheVariants.{V1}
+use Rattle.log_schemes.specs.declared.log.Log.TheVariants.{V1}
 use Rattle.c_tree.specs.Flats.{flat_of}
 use Rattle.image_checks.specs.Checks.{other_locks}
 use Rattle.image_checks.specs.Logs.{logs_of, slot_in}

@@ -1,7 +1,7 @@
 use Rattle.std.proofs.Common.{◌≡◌, List, length, arith, subst, sym, ◌∙◌}
 use Rattle.std.specs.Prelude.{ℤ, pos}
-use Rattle.ido_base.specs.declared.log.Log.{Log}
-use Rattle.ido_base.specs.declared.log.Log.TheVariants.{V2}
+use Rattle.log_schemes.specs.declared.log.Log.{Log}
+use Rattle.log_schemes.specs.declared.log.Log.TheVariants.{V2}
 use Rattle.rv64_isa.specs.declared.instr.Instr.{Instr}
 use Rattle.boundary_code.specs.Boundaries.{lists_of}
 use Rattle.node_code.specs.Pieces.{MayKeep}

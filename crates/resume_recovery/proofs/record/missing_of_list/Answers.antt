@@ -1,10 +1,10 @@
 use Rattle.std.proofs.Common.{◌≡◌, ◌∙◌, ◌+◌, ◌-◌, ℕ, List, Option, Some, ap, map, if◌then◌else◌}
-use Rattle.ido_base.specs.declared.log.Log.TheVariants.{V2}
-use Rattle.ido_base.specs.declared.log.Log.{Log}
-use Rattle.ido_base.specs.Layout.{slot_at}
+use Rattle.log_schemes.specs.declared.log.Log.TheVariants.{V2}
+use Rattle.log_schemes.specs.declared.log.Log.{Log}
+use Rattle.log_schemes.specs.Layout.{slot_at}
 use Rattle.ido_base.specs.Locks.{is_missing, lesser, least_missing}
 use Rattle.ido_base.specs.Words.{Word}
-use Rattle.rv64_isa.specs.Machine.{durable_at, numbers_from}
+use Rattle.machine_model.specs.Machine.{durable_at, numbers_from}
 use Rattle.resume_recovery.proofs.Lists.{least_of, begins, next, ends}
 use Rattle.resume_recovery.proofs.record.missing_of_list.Goals as goal
 

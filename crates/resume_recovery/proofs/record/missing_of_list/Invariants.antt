@@ -1,11 +1,11 @@
 use Rattle.std.proofs.Common.{◌≡◌, ◌+◌, ◌-◌, ◌<◌, ℕ, List, length, map, take}
 use Rattle.std.specs.Prelude.{IfSome}
-use Rattle.ido_base.specs.declared.log.Log.TheVariants.{V2}
-use Rattle.ido_base.specs.Layout.{slot_at}
+use Rattle.log_schemes.specs.declared.log.Log.TheVariants.{V2}
+use Rattle.log_schemes.specs.Layout.{slot_at}
 use Rattle.ido_base.specs.Locks.{least_missing}
 use Rattle.ido_base.specs.Words.{Word}
 use Rattle.line_memory.specs.links.MemoryRepresentation.{Represents}
-use Rattle.rv64_isa.specs.Machine.{durable_at, numbers_from}
+use Rattle.machine_model.specs.Machine.{durable_at, numbers_from}
 use Rattle.resume_recovery.proofs.Lists.{least_of}
 use Rattle.resume_recovery.proofs.record.missing_of_list.Given as goal
 

@@ -1,5 +1,5 @@
 use Rattle.std.proofs.Common.{◌∙◌, ap}
-use Rattle.memory_layout.specs.Points.{point_of}
+use Rattle.log_schemes.specs.Points.{point_of}
 use Rattle.resume_recovery.proofs.Points.{bank-below}
 use Rattle.resume_recovery.proofs.record.point_of.Goals as goal
 

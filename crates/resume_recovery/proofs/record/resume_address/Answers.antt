@@ -1,5 +1,5 @@
 use Rattle.std.proofs.Common.{◌∙◌, ap, sym}
-use Rattle.rv64_isa.specs.Machine.{resume_of}
+use Rattle.machine_model.specs.Machine.{resume_of}
 use Rattle.resume_recovery.proofs.Points.{idle_is, at_is}
 use Rattle.resume_recovery.proofs.record.resume_address.Goals as goal
 

@@ -1,6 +1,6 @@
 use Rattle.std.proofs.Common.{◌≡◌, ℕ, ◌*◌, ◌∙◌, ap, arith}
-use Rattle.ido_base.specs.Layout.{bank_bytes}
-use Rattle.rv64_isa.specs.Machine.{bank_of, durable_point}
+use Rattle.log_schemes.specs.Layout.{bank_bytes}
+use Rattle.machine_model.specs.Machine.{bank_of, durable_point}
 use Rattle.resume_recovery.specs.links.Points.{bank_in}
 use Rattle.resume_recovery.proofs.Points.{bank-is, register_0, register_3, register_other}
 use Rattle.resume_recovery.proofs.record.resumed_register.Goals as goal

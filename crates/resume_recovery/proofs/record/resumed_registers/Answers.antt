@@ -1,5 +1,5 @@
 use Rattle.std.proofs.Common.{◌∙◌, arith, length-set}
-use Rattle.rv64_isa.specs.Machine.{resumed_register}
+use Rattle.machine_model.specs.Machine.{resumed_register}
 use Rattle.resume_recovery.proofs.Points.{registers_are}
 use Rattle.resume_recovery.proofs.Registers.{set_next, all_set}
 use Rattle.resume_recovery.proofs.record.resumed_registers.Goals as goal

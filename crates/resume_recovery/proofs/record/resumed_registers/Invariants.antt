@@ -1,7 +1,7 @@
 use Rattle.std.proofs.Common.{◌≡◌, ℕ, ◌<◌, List, get_or, length}
 use Rattle.ido_base.specs.Words.{Word}
 use Rattle.line_memory.specs.links.MemoryRepresentation.{Represents}
-use Rattle.rv64_isa.specs.Machine.{resumed_register}
+use Rattle.machine_model.specs.Machine.{resumed_register}
 use Rattle.resume_recovery.proofs.record.resumed_registers.Given as goal
 
 abbrev pub invariant-loop-register : goal.invariant-loop-register

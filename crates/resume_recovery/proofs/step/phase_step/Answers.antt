@@ -1,7 +1,7 @@
 use Rattle.std.proofs.Common.{◌≡◌, get_or, refl, ◌∙◌}
-use Rattle.ido_base.specs.declared.event.Reply.TheVariants.{Still}
-use Rattle.rv64_isa.specs.declared.phase.Phase.{Phase}
-use Rattle.rv64_isa.specs.declared.phase.Phase.TheVariants.{Take, Wait, Resume}
+use Rattle.machine_events.specs.declared.event.Reply.TheVariants.{Still}
+use Rattle.machine_model.specs.declared.phase.Phase.{Phase}
+use Rattle.machine_model.specs.declared.phase.Phase.TheVariants.{Take, Wait, Resume}
 use Rattle.hart_core.specs.StepsOnParts.{Parts}
 use Rattle.resume_recovery.specs.RecoverySteps.{phase_at}
 use Rattle.resume_recovery.proofs.RecoveryStepCases.{phase_read, placed_step, still_step}

@@ -1,5 +1,5 @@
 use Rattle.std.proofs.Common.{◌≡◌, ◌++◌, replicate}
-use Rattle.ido_base.specs.declared.event.Event.TheVariants.{Crash}
+use Rattle.machine_events.specs.declared.event.Event.TheVariants.{Crash}
 use Rattle.run_scripts.proofs.draw.push_crashes.Given as goal
 
 abbrev pub invariant-loop : goal.invariant-loop

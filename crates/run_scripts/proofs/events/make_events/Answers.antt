@@ -1,5 +1,5 @@
 use Rattle.std.proofs.Common.{get_or, inl}
-use Rattle.ido_base.specs.declared.event.Event.TheVariants.{Step}
+use Rattle.machine_events.specs.declared.event.Event.TheVariants.{Step}
 use Rattle.run_scripts.proofs.MadeEvents.{still_valid}
 use Rattle.run_scripts.proofs.events.make_events.Goals as goal
 

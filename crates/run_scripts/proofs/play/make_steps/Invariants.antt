@@ -1,6 +1,6 @@
 use Rattle.std.proofs.Common.{◌≡◌, ℕ, ◌+◌, ◌++◌, replicate}
 use Rattle.std.specs.Prelude.{◌↔◌}
-use Rattle.ido_base.specs.declared.event.Event.TheVariants.{Step}
+use Rattle.machine_events.specs.declared.event.Event.TheVariants.{Step}
 use Rattle.run_scripts.proofs.play.make_steps.Given as goal
 
 abbrev pub invariant-loop : goal.invariant-loop

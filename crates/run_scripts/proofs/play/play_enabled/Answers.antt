@@ -1,5 +1,5 @@
 use Rattle.std.proofs.Common.{◌≡◌, ◌+◌, ◌-◌, ◌<◌, length, Some, None, sym, ◌∙◌, ap, subst, arith, length-append, inl}
-use Rattle.ido_base.specs.Cores.{played, least_enabled}
+use Rattle.machine_events.specs.Cores.{played, least_enabled}
 use Rattle.run_scripts.proofs.EventsWithinRoom.{whole, whole_fits}
 use Rattle.run_scripts.proofs.EnabledSteps as s
 use Rattle.run_scripts.proofs.play.play_enabled.Goals as goal

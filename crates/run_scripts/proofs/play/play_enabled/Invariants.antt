@@ -1,6 +1,6 @@
 use Rattle.std.proofs.Common.{◌≡◌, ℕ, ◌+◌, ◌-◌, ◌≤◌, ◌++◌, length}
 use Rattle.std.specs.Prelude.{◌↔◌}
-use Rattle.ido_base.specs.Cores.{played}
+use Rattle.machine_events.specs.Cores.{played}
 use Rattle.run_scripts.specs.Plays.{enabled_steps}
 use Rattle.run_scripts.proofs.play.play_enabled.Given as goal
 

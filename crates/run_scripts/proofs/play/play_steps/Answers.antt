@@ -1,5 +1,5 @@
 use Rattle.std.proofs.Common.{◌≡◌, ◌-◌, ◌++◌, min, ◌∙◌, ap, arith}
-use Rattle.ido_base.specs.declared.event.Event.TheVariants.{Step}
+use Rattle.machine_events.specs.declared.event.Event.TheVariants.{Step}
 use Rattle.run_scripts.proofs.EventsWithinRoom.{take-replicate}
 use Rattle.run_scripts.proofs.play.play_steps.Goals as goal
 

@@ -1,7 +1,7 @@
 use Rattle.std.proofs.Common.{◌≡◌, ◌+◌, ◌-◌, length, true, false, sym, ◌∙◌, ap, arith, inl, length-append}
 use Rattle.ido_base.specs.declared.limits.TheConstants.{MOST_STEPS_TO}
-use Rattle.ido_base.specs.declared.event.Event.TheVariants.{Step}
-use Rattle.ido_base.specs.Cores.{played, passed_count}
+use Rattle.machine_events.specs.declared.event.Event.TheVariants.{Step}
+use Rattle.machine_events.specs.Cores.{played, passed_count}
 use Rattle.run_scripts.specs.links.Goals.{reaches}
 use Rattle.run_scripts.proofs.EventsWithinRoom.{whole, whole_fits}
 use Rattle.run_scripts.proofs.GoalSteps as s

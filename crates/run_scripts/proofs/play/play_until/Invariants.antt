@@ -1,7 +1,7 @@
 use Rattle.std.proofs.Common.{◌≡◌, ℕ, ◌+◌, ◌-◌, ◌≤◌, ◌++◌, length}
 use Rattle.std.specs.Prelude.{◌↔◌}
 use Rattle.ido_base.specs.declared.limits.TheConstants.{MOST_STEPS_TO}
-use Rattle.ido_base.specs.Cores.{played, passed_count}
+use Rattle.machine_events.specs.Cores.{played, passed_count}
 use Rattle.run_scripts.specs.Plays.{steps_until}
 use Rattle.run_scripts.specs.links.Goals.{reaches}
 use Rattle.run_scripts.proofs.play.play_until.Given as goal

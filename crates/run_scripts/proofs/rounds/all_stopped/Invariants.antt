@@ -1,5 +1,5 @@
 use Rattle.std.proofs.Common.{◌≡◌, ℕ, ◌<◌, true}
-use Rattle.ido_base.specs.Cores.{played}
+use Rattle.machine_events.specs.Cores.{played}
 use Rattle.run_scripts.proofs.rounds.all_stopped.Given as goal
 
 abbrev pub invariant-loop-hart : goal.invariant-loop-hart

@@ -1,5 +1,5 @@
 use Rattle.std.proofs.Common.{◌≡◌, ℕ, ◌-◌, min, [], ◌++◌, ◌∙◌, ap, subst, arith}
-use Rattle.ido_base.specs.Cores.{played}
+use Rattle.machine_events.specs.Cores.{played}
 use Rattle.run_scripts.specs.Rounds.{AreAllStopped, AreWholeRounds, IsOneGoing, all_stopped, none_left, round_of}
 use Rattle.run_scripts.proofs.RoundsMade.{has_rounds, leads_more}
 use Rattle.run_scripts.proofs.rounds.make_rounds.Goals as goal

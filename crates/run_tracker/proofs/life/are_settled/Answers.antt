@@ -1,7 +1,7 @@
 use Rattle.std.proofs.Common.{◌≡◌, ◌⊎◌, ℕ, zero, suc, ◌<◌, ◌≤◌, Bool, true, false, ◌&&◌, length, refl, sym, ap, ◌∙◌, arith, inl, inr}
 use Rattle.std.proofs.lemmas.Bool.{cases_lt}
-use Rattle.rv64_isa.specs.Machine.{World}
-use Rattle.rv64_isa.specs.Machine.{are_settled, is_settled_hart}
+use Rattle.machine_model.specs.Machine.{World}
+use Rattle.machine_model.specs.Machine.{are_settled, is_settled_hart}
 use Rattle.run_tracker.proofs.life.are_settled.Goals as goal
 
 not_and : (b : Bool) → (b && false) ≡ false

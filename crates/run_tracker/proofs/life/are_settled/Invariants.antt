@@ -1,6 +1,6 @@
 use Rattle.std.proofs.Common.{◌≡◌, true}
-use Rattle.rv64_isa.specs.Machine.{World}
-use Rattle.rv64_isa.specs.Machine.{are_settled}
+use Rattle.machine_model.specs.Machine.{World}
+use Rattle.machine_model.specs.Machine.{are_settled}
 use Rattle.ido_machine.specs.Machines.{RepresentsMachine}
 use Rattle.run_tracker.proofs.life.are_settled.Given as goal
 

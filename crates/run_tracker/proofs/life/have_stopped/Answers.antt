@@ -2,7 +2,7 @@ use Rattle.std.proofs.Common.{◌≡◌, ℕ, Some, sym, subst, ap, ◌∙◌, a
 use Rattle.std.specs.Prelude.{slice_get}
 use Rattle.std.proofs.lemmas.Bool.{cases_lt}
 use Rattle.std.proofs.lemmas.Option.{slice_get_within}
-use Rattle.rv64_isa.specs.Machine.{has_stopped}
+use Rattle.machine_model.specs.Machine.{has_stopped}
 use Rattle.ido_machine.proofs.Public.{get_some}
 use Rattle.run_tracker.proofs.StoppedHarts.{all_stopped, one_goes_on}
 use Rattle.run_tracker.proofs.life.have_stopped.Goals as goal

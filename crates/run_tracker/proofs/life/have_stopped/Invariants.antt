@@ -1,6 +1,6 @@
 use Rattle.std.proofs.Common.{◌≡◌, ◌<◌, ℕ, true, Some}
 use Rattle.std.specs.Prelude.{slice_get}
-use Rattle.rv64_isa.specs.Machine.{Hart, World, has_stopped}
+use Rattle.machine_model.specs.Machine.{Hart, World, has_stopped}
 use Rattle.ido_machine.specs.Machines.{RepresentsMachine}
 use Rattle.run_tracker.proofs.life.have_stopped.Given as goal
 

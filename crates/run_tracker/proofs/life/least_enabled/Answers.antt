@@ -1,9 +1,9 @@
 use Rattle.std.proofs.Common.{◌≡◌, suc, ◌+◌, ◌≤◌, List, length, not, false, true, sym, ap, ◌∙◌, arith}
-use Rattle.ido_base.specs.declared.event.Event.TheVariants.{Step}
-use Rattle.ido_base.specs.Cores.{is_enabled, is_idle, least_enabled}
-use Rattle.ido_base.proofs.Public.{least_enabled-next, least_enabled-stays}
+use Rattle.machine_events.specs.declared.event.Event.TheVariants.{Step}
+use Rattle.machine_events.specs.Cores.{is_enabled, is_idle, least_enabled}
+use Rattle.machine_events.proofs.Public.{least_enabled-next, least_enabled-stays}
 use Rattle.rv64_isa.specs.declared.object.Slot.{Slot}
-use Rattle.rv64_isa.specs.Machine.{reply_to}
+use Rattle.machine_model.specs.Machine.{reply_to}
 use Rattle.run_tracker.specs.ObjectLives.{living}
 use Rattle.run_tracker.proofs.life.least_enabled.Goals as goal
 

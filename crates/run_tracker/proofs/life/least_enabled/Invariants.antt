@@ -1,5 +1,5 @@
 use Rattle.std.proofs.Common.{◌≡◌, None}
-use Rattle.ido_base.specs.Cores.{least_enabled}
+use Rattle.machine_events.specs.Cores.{least_enabled}
 use Rattle.ido_machine.specs.Machines.{RepresentsMachine, program_in}
 use Rattle.run_tracker.specs.ObjectLives.{LifeConfig, living}
 use Rattle.run_tracker.proofs.life.least_enabled.Given as goal

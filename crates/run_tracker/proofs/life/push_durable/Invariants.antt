@@ -1,6 +1,6 @@
 use Rattle.std.proofs.Common.{◌≡◌, ◌+◌, ◌++◌}
 use Rattle.std.specs.Vec.{vec_capacity, vec_len}
-use Rattle.rv64_isa.specs.Machine.{World}
+use Rattle.machine_model.specs.Machine.{World}
 use Rattle.ido_machine.specs.Machines.{RepresentsMachine}
 use Rattle.run_tracker.proofs.DurableWords.{durable_from}
 use Rattle.run_tracker.proofs.life.push_durable.Given as goal

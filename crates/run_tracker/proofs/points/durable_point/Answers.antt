@@ -1,5 +1,5 @@
 use Rattle.std.proofs.Common.{ℕ, sym, ap, ◌∙◌}
-use Rattle.ido_base.specs.declared.log.Log.{Log}
+use Rattle.log_schemes.specs.declared.log.Log.{Log}
 use Rattle.ido_base.specs.Words.{word_at, durable_value}
 use Rattle.run_tracker.specs.links.AccountRepresentation.{point_word}
 use Rattle.run_tracker.proofs.points.durable_point.Goals as goal

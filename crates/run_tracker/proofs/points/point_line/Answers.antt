@@ -1,5 +1,5 @@
 use Rattle.std.proofs.Common.{ℕ, ◌+◌, ◌*◌, ◌<◌, length, ap, sym, ◌∙◌, subst}
-use Rattle.ido_base.specs.Layout.{line_count, log_lines}
+use Rattle.log_schemes.specs.Layout.{line_count, log_lines}
 use Rattle.ido_machine.specs.Machines.{program_in, log_by}
 use Rattle.run_tracker.proofs.PointWords.{point_place, line_exists}
 use Rattle.run_tracker.proofs.points.point_line.Goals as goal

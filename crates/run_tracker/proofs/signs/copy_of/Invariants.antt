@@ -1,6 +1,6 @@
 use Rattle.std.proofs.Common.{◌≡◌, List, take}
 use Rattle.rv64_isa.specs.declared.object.ThreadMarks.{ThreadMarks}
-use Rattle.rv64_isa.specs.Executables.{node_marks, resume_marks}
+use Rattle.machine_model.specs.Executables.{node_marks, resume_marks}
 use Rattle.run_tracker.proofs.signs.copy_of.Given as goal
 
 -- so many of the threads' marks have been copied

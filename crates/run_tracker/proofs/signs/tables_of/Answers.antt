@@ -1,7 +1,8 @@
 use Rattle.std.proofs.Common.{◌≡◌, ℕ, [], ◌∷◌, ◌<◌, List, length, length-append, map, get_or, slice_get, Some, ap, sym, subst, ◌∙◌, arith, inl, inr}
 use Rattle.rv64_isa.specs.declared.object.ThreadMarks.{ThreadMarks}
 use Rattle.rv64_isa.specs.declared.object.Slot.{Slot}
-use Rattle.rv64_isa.specs.Programs.{program_of, code_of, code_start, slot_of}
+use Rattle.rv64_isa.specs.Programs.{code_of, code_start, slot_of}
+use Rattle.machine_model.specs.Objects.{program_of}
 use Rattle.ido_machine.proofs.Public.{get_is, get_map, get_push}
 use Rattle.run_tracker.specs.declared.signs.SignTable.{SignTable}
 use Rattle.run_tracker.specs.links.SignTables.{IsTableOf}

@@ -1,5 +1,6 @@
 use Rattle.std.proofs.Common.{◌≡◌, ℕ, [], length, map, slice_get, slice_index_or, Some}
-use Rattle.rv64_isa.specs.Programs.{program_of, code_of, code_start}
+use Rattle.rv64_isa.specs.Programs.{code_of, code_start}
+use Rattle.machine_model.specs.Objects.{program_of}
 use Rattle.run_tracker.specs.declared.signs.SignTable.{SignTable}
 use Rattle.run_tracker.specs.links.SignTables.{IsTableOf}
 use Rattle.run_tracker.proofs.signs.tables_of.Given as goal

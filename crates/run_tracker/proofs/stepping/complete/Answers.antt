@@ -1,8 +1,8 @@
 use Rattle.std.proofs.Common.{◌==◌, not, refl, sym, subst, arith}
-use Rattle.ido_base.specs.declared.event.Reply.TheVariants.{Moved}
-use Rattle.ido_base.specs.declared.event.Event.TheVariants.{Step}
-use Rattle.rv64_isa.specs.Machine.{after_event}
-use Rattle.rv64_isa.specs.Schedule.{is_fence, is_point_store, finishes_fence, stores_point}
+use Rattle.machine_events.specs.declared.event.Reply.TheVariants.{Moved}
+use Rattle.machine_events.specs.declared.event.Event.TheVariants.{Step}
+use Rattle.machine_model.specs.Machine.{after_event}
+use Rattle.machine_model.specs.Schedule.{is_fence, is_point_store, finishes_fence, stores_point}
 use Rattle.run_tracker.specs.links.AccountRepresentation.{AccountInv}
 use Rattle.run_tracker.proofs.StepsByObservation.{fence_done, mark_is, plain_counts, plain_steps, point_is, position_is}
 use Rattle.run_tracker.proofs.EventCounts.{completes-other, counted-one}

@@ -1,4 +1,4 @@
-use Rattle.rv64_isa.specs.Schedule.{steps_after}
+use Rattle.machine_model.specs.Schedule.{steps_after}
 use Rattle.run_tracker.proofs.stepping.crash.Goals as goal
 
 pub returns-clause-steps : goal.returns-clause-steps

@@ -1,8 +1,8 @@
 use Rattle.std.proofs.Common.{ℕ, length, ap, sym, subst, ◌∙◌}
-use Rattle.ido_base.specs.declared.log.Log.{Log}
-use Rattle.ido_base.specs.declared.event.Event.TheVariants.{Evict}
-use Rattle.rv64_isa.specs.Machine.{World, after_event}
-use Rattle.rv64_isa.specs.Schedule.{with_all_kept}
+use Rattle.log_schemes.specs.declared.log.Log.{Log}
+use Rattle.machine_events.specs.declared.event.Event.TheVariants.{Evict}
+use Rattle.machine_model.specs.Machine.{World, after_event}
+use Rattle.machine_model.specs.Schedule.{with_all_kept}
 use Rattle.ido_machine.specs.Machines.{program_in}
 use Rattle.run_tracker.specs.links.AccountRepresentation.{AccountInv}
 use Rattle.run_tracker.specs.links.SectionRepresentation.{AreSeen}

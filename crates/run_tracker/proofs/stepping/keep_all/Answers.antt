@@ -1,5 +1,5 @@
 use Rattle.std.proofs.Common.{ℕ, ◌+◌, ◌<◌, length, sym, subst, ◌∙◌, arith, add-one}
-use Rattle.rv64_isa.specs.Schedule.{HartSteps, with_all_kept}
+use Rattle.machine_model.specs.Schedule.{HartSteps, with_all_kept}
 use Rattle.ido_machine.specs.Machines.{program_in}
 use Rattle.run_tracker.specs.links.AccountRepresentation.{AccountInv, AllFrom}
 use Rattle.run_tracker.specs.links.SectionRepresentation.{section_at}

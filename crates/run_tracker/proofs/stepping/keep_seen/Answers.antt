@@ -1,6 +1,6 @@
 use Rattle.std.proofs.Common.{◌≡◌, ℕ, ◌+◌, ◌<◌, length, ap, sym, subst, ◌∙◌, arith}
 use Rattle.std.proofs.lemmas.List.{get_or_read}
-use Rattle.rv64_isa.specs.Schedule.{hart_steps, with_kept}
+use Rattle.machine_model.specs.Schedule.{hart_steps, with_kept}
 use Rattle.run_tracker.specs.links.AccountRepresentation.{AccountInv, AllFrom}
 use Rattle.run_tracker.specs.links.SectionRepresentation.{outside, section_at}
 use Rattle.run_tracker.specs.declared.sections.HartSections.{HartSections}

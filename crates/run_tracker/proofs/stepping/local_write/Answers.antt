@@ -1,8 +1,8 @@
 use Rattle.std.proofs.Common.{◌≡◌, ℕ, ◌<◌, List, length, slice_get, Option, None, Some, IfSome, IfNone, sym, ap, ◌∙◌, arith}
 use Rattle.rv64_isa.specs.declared.object.Slot.{Slot}
 use Rattle.rv64_isa.specs.declared.object.Slot.TheVariants.{Row}
-use Rattle.rv64_isa.specs.declared.phase.Phase.TheVariants.{Run}
-use Rattle.rv64_isa.specs.Machine.{Hart, World}
+use Rattle.machine_model.specs.declared.phase.Phase.TheVariants.{Run}
+use Rattle.machine_model.specs.Machine.{Hart, World}
 use Rattle.rv64_isa.specs.Programs.{code_of, code_start, fetched}
 use Rattle.hart_core.specs.declared.local.LocalWrite.{LocalWrite}
 use Rattle.hart_core.specs.LocalSteps.{executed_locally, local_step, placed_code}

@@ -1,6 +1,6 @@
 use Rattle.std.proofs.Common.{◌≡◌, ◌<◌, length, slice_get, Some, arith, ap, ◌∙◌}
-use Rattle.rv64_isa.specs.Machine.{Hart}
-use Rattle.rv64_isa.specs.Schedule.{is_running}
+use Rattle.machine_model.specs.Machine.{Hart}
+use Rattle.machine_model.specs.Schedule.{is_running}
 use Rattle.ido_machine.proofs.Public.{get_some}
 use Rattle.run_tracker.specs.links.AccountRepresentation.{point_word}
 use Rattle.run_tracker.proofs.PointWords.{point_exists}

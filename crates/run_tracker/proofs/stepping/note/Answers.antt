@@ -1,10 +1,10 @@
 use Rattle.std.proofs.Common.{◌≡◌, false, refl, ap, sym, subst, ◌∙◌, length}
-use Rattle.ido_base.specs.declared.log.Log.{Log}
-use Rattle.ido_base.specs.declared.event.Event.TheVariants.{Step}
-use Rattle.ido_base.specs.declared.event.Reply.{Reply}
-use Rattle.ido_base.specs.declared.event.Reply.TheVariants.{Moved, Drained, Waits, Barrier, Still, Stuck, Device}
-use Rattle.rv64_isa.specs.Machine.{after_event}
-use Rattle.rv64_isa.specs.Schedule.{has_moved, with_all_kept}
+use Rattle.log_schemes.specs.declared.log.Log.{Log}
+use Rattle.machine_events.specs.declared.event.Event.TheVariants.{Step}
+use Rattle.machine_events.specs.declared.event.Reply.{Reply}
+use Rattle.machine_events.specs.declared.event.Reply.TheVariants.{Moved, Drained, Waits, Barrier, Still, Stuck, Device}
+use Rattle.machine_model.specs.Machine.{after_event}
+use Rattle.machine_model.specs.Schedule.{has_moved, with_all_kept}
 use Rattle.run_tracker.specs.links.AccountRepresentation.{AccountInv}
 use Rattle.run_tracker.specs.links.LifeParts.{is_drained, seen_step, HasStepped}
 use Rattle.run_tracker.proofs.DurablePoints.{above_seen}

@@ -1,6 +1,6 @@
 use Rattle.std.proofs.Common.{Bool, sym, subst}
 use Rattle.std.specs.Prelude.{if◌then◌else◌}
-use Rattle.rv64_isa.specs.Schedule.{next_life, steps_after}
+use Rattle.machine_model.specs.Schedule.{next_life, steps_after}
 use Rattle.run_tracker.specs.links.AccountRepresentation.{AccountInv}
 use Rattle.run_tracker.proofs.LivesEnd.{closed}
 use Rattle.run_tracker.proofs.stepping.start.Goals as goal

@@ -1,7 +1,7 @@
 use Rattle.std.proofs.Common.{◌≡◌, ℕ, ◌<◌, List, length, slice_get, Option, Some, IfSome, ap, sym, subst, ◌∙◌, arith}
-use Rattle.ido_base.specs.declared.event.Event.TheVariants.{Step}
+use Rattle.machine_events.specs.declared.event.Event.TheVariants.{Step}
 use Rattle.rv64_isa.specs.declared.object.Slot.{Slot}
-use Rattle.rv64_isa.specs.Machine.{Hart, World, after_event}
+use Rattle.machine_model.specs.Machine.{Hart, World, after_event}
 use Rattle.ido_machine.specs.Harts.{GoesLocally}
 use Rattle.ido_machine.specs.Machines.{RepresentsMachine, program_in}
 use Rattle.ido_machine.specs.declared.machine.Machine.{Machine}

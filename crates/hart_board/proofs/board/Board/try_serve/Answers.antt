@@ -1,5 +1,5 @@
 use Rattle.std.proofs.Common.{rules, true, ap, sym, ◌∙◌, refl, subst, ◌≡◌, Some, ℕ, Option}
-use Rattle.ido_base.specs.Cores.{IsValid}
+use Rattle.machine_events.specs.Cores.{IsValid}
 use Rattle.hart_board.specs.declared.core_turn.Ahead.{Ahead}
 use Rattle.hart_board.specs.CoreTurns.{RunsIn}
 use Rattle.hart_board.specs.declared.views.Known.{Known}

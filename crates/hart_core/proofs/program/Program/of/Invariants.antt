@@ -1,6 +1,7 @@
 use Rattle.std.proofs.Common.{◌≡◌, ◌+◌, ◌*◌, ◌≤◌, map, take}
 use Rattle.ido_base.specs.declared.limits.TheConstants.{CODE_BASE, MOST_CODE_WORDS}
-use Rattle.rv64_isa.specs.Programs.{program_of, code_start}
+use Rattle.rv64_isa.specs.Programs.{code_start}
+use Rattle.machine_model.specs.Objects.{program_of}
 use Rattle.hart_core.specs.links.Starts.{AreStarts}
 use Rattle.hart_core.proofs.program.Program.of.Given as goal
 

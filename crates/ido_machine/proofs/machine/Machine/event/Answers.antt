@@ -1,5 +1,5 @@
 use Rattle.std.proofs.Common.{inl, inr}
-use Rattle.rv64_isa.specs.Machine.{happens}
+use Rattle.machine_model.specs.Machine.{happens}
 use Rattle.ido_machine.proofs.machine.Machine.event.Goals as goal
 
 pub returns-in-Step-clause-world : goal.returns-in-Step-clause-world

@@ -1,12 +1,12 @@
 use Rattle.std.proofs.Common.{◌≡◌, ℕ, ◌/◌, true, List, length, map, rules, refl, ap, subst, ◌∙◌}
 use Rattle.std.proofs.lemmas.List.{with_items_is}
-use Rattle.ido_base.specs.declared.log.Log.{Log}
+use Rattle.log_schemes.specs.declared.log.Log.{Log}
 use Rattle.ido_base.specs.Words.{word_of}
 use Rattle.ido_base.specs.Layout.{spread_words}
 use Rattle.line_memory.specs.links.MemoryRepresentation.{Represents, log_in}
 use Rattle.rv64_isa.specs.declared.object.Slot.{Slot}
-use Rattle.rv64_isa.specs.declared.phase.Phase.{Phase}
-use Rattle.rv64_isa.specs.Machine.{after_crash_of, phase_after_crash, durable_point, numbers_from}
+use Rattle.machine_model.specs.declared.phase.Phase.{Phase}
+use Rattle.machine_model.specs.Machine.{after_crash_of, phase_after_crash, durable_point, numbers_from}
 use Rattle.ido_machine.specs.Machines.{MachineState, RepresentsMachineState}
 use Rattle.ido_machine.proofs.Starts.{crash_simulates}
 use Rattle.ido_machine.proofs.machine.Machine.of_words.Goals as goal

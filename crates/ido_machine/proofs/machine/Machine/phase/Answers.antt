@@ -1,6 +1,6 @@
 use Rattle.std.proofs.Common.{List, get_or, sym, ap, ◌∙◌}
-use Rattle.rv64_isa.specs.declared.phase.Phase.{Phase}
-use Rattle.rv64_isa.specs.Machine.{Hart}
+use Rattle.machine_model.specs.declared.phase.Phase.{Phase}
+use Rattle.machine_model.specs.Machine.{Hart}
 use Rattle.ido_machine.proofs.Lists.{get_map}
 use Rattle.ido_machine.proofs.machine.Machine.phase.Goals as goal
 

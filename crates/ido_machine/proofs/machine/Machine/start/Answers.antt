@@ -1,11 +1,11 @@
 use Rattle.std.proofs.Common.{◌≡◌, ℕ, List, false, length, map, replicate, rules, refl, sym, ap, subst, ◌∙◌}
-use Rattle.ido_base.specs.declared.log.Log.{Log}
+use Rattle.log_schemes.specs.declared.log.Log.{Log}
 use Rattle.ido_base.specs.Words.{word_of}
-use Rattle.ido_base.specs.Layout.{initial_words}
+use Rattle.log_schemes.specs.Layout.{initial_words}
 use Rattle.line_memory.specs.links.MemoryRepresentation.{Represents, log_in}
 use Rattle.rv64_isa.specs.declared.object.Slot.{Slot}
-use Rattle.rv64_isa.specs.declared.phase.Phase.TheVariants.{Run}
-use Rattle.rv64_isa.specs.Machine.{start_of}
+use Rattle.machine_model.specs.declared.phase.Phase.TheVariants.{Run}
+use Rattle.machine_model.specs.Machine.{start_of}
 use Rattle.ido_machine.specs.Machines.{MachineState, RepresentsMachineState}
 use Rattle.ido_machine.proofs.Starts.{start_simulates}
 use Rattle.ido_machine.proofs.machine.Machine.start.Goals as goal

@@ -1,6 +1,6 @@
 use Rattle.std.proofs.Common.{◌≡◌, List, length, replicate, refl, sym, subst, rules}
 use Rattle.std.proofs.lemmas.List.{with_items_is}
-use Rattle.rv64_isa.specs.declared.phase.Phase.TheVariants.{Run}
+use Rattle.machine_model.specs.declared.phase.Phase.TheVariants.{Run}
 use Rattle.hart_core.specs.declared.hart.Hart.{Hart}
 use Rattle.ido_machine.specs.Harts.{AreAnew}
 use Rattle.ido_machine.specs.Machines.{state_of}

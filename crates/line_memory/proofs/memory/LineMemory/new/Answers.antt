@@ -1,5 +1,5 @@
 use Rattle.std.proofs.Common.{◌≡◌, ℕ, ◌*◌, ap, arith, refl}
-use Rattle.ido_base.specs.Layout.{log_words}
+use Rattle.log_schemes.specs.Layout.{log_words}
 use Rattle.line_memory.proofs.NewCells.{represents-of, initial_cells}
 use Rattle.line_memory.proofs.memory.LineMemory.new.Goals as goal
 

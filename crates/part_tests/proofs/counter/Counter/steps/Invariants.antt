@@ -1,5 +1,5 @@
 use Rattle.std.proofs.Common.{◌≡◌, ◌≤◌, drop}
-use Rattle.ido_base.specs.Cores.{played}
+use Rattle.machine_events.specs.Cores.{played}
 use Rattle.part_tests.specs.CountingCore.{counting}
 use Rattle.part_tests.proofs.counter.Counter.steps.Given as goal
 

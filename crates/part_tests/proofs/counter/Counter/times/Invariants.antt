@@ -1,5 +1,5 @@
 use Rattle.std.proofs.Common.{◌≡◌, ◌+◌, ◌≤◌, drop}
-use Rattle.ido_base.specs.Cores.{passed_count}
+use Rattle.machine_events.specs.Cores.{passed_count}
 use Rattle.part_tests.specs.CountingCore.{counting, is_step}
 use Rattle.part_tests.proofs.counter.Counter.times.Given as goal
 

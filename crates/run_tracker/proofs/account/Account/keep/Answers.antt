@@ -1,5 +1,5 @@
 use Rattle.std.proofs.Common.{◌≡◌, ◌≤◌, List, length, drop, sym, ap, subst, ◌∙◌, arith, refl}
-use Rattle.rv64_isa.specs.Schedule.{durable_steps}
+use Rattle.machine_model.specs.Schedule.{durable_steps}
 use Rattle.run_tracker.specs.declared.account.OpenSteps.{OpenSteps}
 use Rattle.run_tracker.specs.declared.account.PointStore.{PointStore}
 use Rattle.run_tracker.specs.links.AccountRepresentation.{bound_in, open_at, nothing_open, total}

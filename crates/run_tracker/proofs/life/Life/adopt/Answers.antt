@@ -1,11 +1,11 @@
 use Rattle.std.proofs.Common.{◌≡◌, ℕ, ◌+◌, ◌-◌, ◌<◌, ◌≤◌, [], length, replicate, slice_get, slice_index_or, Some, refl, ap, sym, subst, ◌∙◌, arith}
 use Rattle.std.proofs.lemmas.List.{length-replicate}
 use Rattle.std.specs.Vec.{vec_capacity, vec_len}
-use Rattle.ido_base.specs.declared.event.Event.TheVariants.{Step}
-use Rattle.ido_base.specs.Cores.{EachMoves}
-use Rattle.rv64_isa.specs.declared.phase.Phase.TheVariants.{Run}
-use Rattle.rv64_isa.specs.Executables.{node_marks}
-use Rattle.rv64_isa.specs.Machine.{Hart}
+use Rattle.machine_events.specs.declared.event.Event.TheVariants.{Step}
+use Rattle.machine_events.specs.Cores.{EachMoves}
+use Rattle.machine_model.specs.declared.phase.Phase.TheVariants.{Run}
+use Rattle.machine_model.specs.Executables.{node_marks}
+use Rattle.machine_model.specs.Machine.{Hart}
 use Rattle.hart_core.specs.LocalSteps.{placed_code}
 use Rattle.ido_machine.specs.Machines.{events_of, program_in}
 use Rattle.ido_machine.proofs.Public.{get_some}

@@ -3,12 +3,13 @@ use Rattle.std.proofs.Common.{length-append}
 use Rattle.std.proofs.lemmas.List.{length-map, length-replicate}
 use Rattle.rv64_isa.specs.declared.object.Slot.{Slot}
 use Rattle.rv64_isa.specs.declared.object.ThreadMarks.{ThreadMarks}
-use Rattle.rv64_isa.specs.Executables.{node_marks}
-use Rattle.rv64_isa.specs.Frames.{IsWellFormedWorld}
-use Rattle.rv64_isa.specs.Programs.{program_of, slot_of}
-use Rattle.rv64_isa.specs.Machine.{World}
-use Rattle.rv64_isa.specs.Schedule.{LifeSchedules, first_steps, no_steps}
-use Rattle.ido_base.specs.Cores.{point_stores, finished_fences}
+use Rattle.machine_model.specs.Executables.{node_marks}
+use Rattle.machine_model.specs.Frames.{IsWellFormedWorld}
+use Rattle.rv64_isa.specs.Programs.{slot_of}
+use Rattle.machine_model.specs.Objects.{program_of}
+use Rattle.machine_model.specs.Machine.{World}
+use Rattle.machine_model.specs.Schedule.{LifeSchedules, first_steps, no_steps}
+use Rattle.machine_events.specs.Cores.{point_stores, finished_fences}
 use Rattle.ido_machine.specs.Machines.{RepresentsMachine, program_in}
 use Rattle.run_tracker.specs.declared.life.Life.TheInside.{Inside}
 use Rattle.run_tracker.specs.links.Journals.{Recorded}

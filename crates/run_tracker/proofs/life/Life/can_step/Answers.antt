@@ -1,5 +1,5 @@
 use Rattle.std.proofs.Common.{◌≡◌, length, refl, subst}
-use Rattle.ido_base.specs.Cores.{least_enabled}
+use Rattle.machine_events.specs.Cores.{least_enabled}
 use Rattle.run_tracker.specs.ObjectLives.{Course, living, opening_of, world_of}
 use Rattle.run_tracker.specs.links.LifeRepresentation.{course_of}
 use Rattle.run_tracker.proofs.life.Life.can_step.Goals as goal

@@ -1,7 +1,7 @@
 use Rattle.std.proofs.Common.{◌≡◌, ℕ, ◌+◌, ◌*◌, ◌/◌, ◌++◌, List, length, ap, subst, ◌∙◌, arith, rules}
 use Rattle.ido_base.specs.declared.limits.TheConstants.{VARIABLE_WORDS}
-use Rattle.rv64_isa.specs.Machine.{World}
-use Rattle.ido_base.specs.Layout.{log_words, word_count}
+use Rattle.machine_model.specs.Machine.{World}
+use Rattle.log_schemes.specs.Layout.{log_words, word_count}
 use Rattle.ido_machine.specs.Machines.{program_in, log_by}
 use Rattle.run_tracker.specs.ObjectLives.{Course, world_of, left_words, variable_words_in}
 use Rattle.run_tracker.specs.links.LifeRepresentation.{course_of}

@@ -1,6 +1,6 @@
 use Rattle.std.proofs.Common.{◌≡◌, ℕ, ◌<◌, List, length, refl, ap, sym, subst, ◌∙◌, arith, Bool}
-use Rattle.rv64_isa.specs.Executables.{node_marks}
-use Rattle.rv64_isa.specs.Machine.{IsValidAt, can_start}
+use Rattle.machine_model.specs.Executables.{node_marks}
+use Rattle.machine_model.specs.Machine.{IsValidAt, can_start}
 use Rattle.ido_machine.specs.Machines.{program_in}
 use Rattle.run_tracker.specs.declared.signs.SignTable.{SignTable}
 use Rattle.run_tracker.specs.links.SignTables.{AreTables}

@@ -1,6 +1,6 @@
 use Rattle.std.proofs.Common.{◌≡◌, ℕ, Some, length, ap, sym, subst, ◌∙◌, arith, length-append, [], ◌∷◌}
 use Rattle.std.specs.Prelude.{slice_get}
-use Rattle.rv64_isa.specs.Schedule.{schedules}
+use Rattle.machine_model.specs.Schedule.{schedules}
 use Rattle.run_tracker.specs.ObjectLives.{Course, steps_in}
 use Rattle.run_tracker.specs.links.LifeRepresentation.{course_of}
 use Rattle.run_tracker.proofs.LivesEnd.{last_there, lives_counted, same_some}

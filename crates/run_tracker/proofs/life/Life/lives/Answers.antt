@@ -1,5 +1,5 @@
 use Rattle.std.proofs.Common.{◌≡◌, ◌+◌, length, subst, arith}
-use Rattle.rv64_isa.specs.Schedule.{schedules}
+use Rattle.machine_model.specs.Schedule.{schedules}
 use Rattle.run_tracker.specs.ObjectLives.{Course, steps_in}
 use Rattle.run_tracker.specs.links.LifeRepresentation.{course_of}
 use Rattle.run_tracker.proofs.LivesEnd.{lives_counted}

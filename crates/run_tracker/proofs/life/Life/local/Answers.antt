@@ -1,7 +1,7 @@
 use Rattle.std.proofs.Common.{◌≡◌, ℕ, ◌<◌, List, [], length, slice_get, slice_index_or, Some, sym, ap, subst, ◌∙◌, arith, rules}
 use Rattle.rv64_isa.specs.declared.object.ThreadMarks.{ThreadMarks}
-use Rattle.rv64_isa.specs.declared.phase.Phase.{Phase}
-use Rattle.rv64_isa.specs.Executables.{node_marks}
+use Rattle.machine_model.specs.declared.phase.Phase.{Phase}
+use Rattle.machine_model.specs.Executables.{node_marks}
 use Rattle.rv64_isa.specs.Programs.{code_of, code_start}
 use Rattle.hart_core.specs.declared.local.LocalState.{LocalState}
 use Rattle.hart_core.specs.LocalSteps.{PlacedCode, placed_code}

@@ -1,5 +1,5 @@
-use Rattle.rv64_isa.proofs.Public.{starts_simulate}
-use Rattle.rv64_isa.specs.Programs.{program_of}
+use Rattle.machine_model.proofs.Public.{starts_simulate}
+use Rattle.machine_model.specs.Objects.{program_of}
 use Rattle.run_tracker.proofs.life.Life.new.Goals as goal
 
 pub begun-requires-clause-sound : goal.begun-requires-clause-sound

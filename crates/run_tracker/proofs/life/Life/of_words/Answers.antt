@@ -1,6 +1,6 @@
 use Rattle.std.proofs.Common.{ap, ◌∙◌, rules}
 use Rattle.std.proofs.lemmas.Result.{IfOk-weaker}
-use Rattle.rv64_isa.specs.Machine.{World}
+use Rattle.machine_model.specs.Machine.{World}
 use Rattle.run_tracker.specs.ObjectLives.{life_at}
 use Rattle.run_tracker.specs.links.EarlierLives.{lives_in}
 use Rattle.run_tracker.proofs.LifeOpenings.{opening_is, left_stands, left_sound}

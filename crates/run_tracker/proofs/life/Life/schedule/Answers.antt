@@ -1,6 +1,6 @@
 use Rattle.std.proofs.Common.{◌≡◌, ◌-◌, ◌<◌, ℕ, List, length, drop, take, Some, ap, sym, subst, ◌∙◌, arith}
 use Rattle.std.specs.Prelude.{slice_get, slice_index_or}
-use Rattle.rv64_isa.specs.Schedule.{schedules}
+use Rattle.machine_model.specs.Schedule.{schedules}
 use Rattle.run_tracker.specs.ObjectLives.{Course, steps_in}
 use Rattle.run_tracker.specs.links.AccountRepresentation.{life_place}
 use Rattle.run_tracker.specs.links.LifeRepresentation.{course_of}

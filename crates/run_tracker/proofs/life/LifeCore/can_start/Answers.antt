@@ -1,5 +1,5 @@
 use Rattle.std.proofs.Common.{sym, ap, ◌∙◌}
-use Rattle.rv64_isa.specs.Machine.{can_start}
+use Rattle.machine_model.specs.Machine.{can_start}
 use Rattle.run_tracker.specs.ObjectLives.{LifeConfig, opening_of}
 use Rattle.run_tracker.proofs.Events.{played_is}
 use Rattle.run_tracker.proofs.life.LifeCore.can_start.Goals as goal

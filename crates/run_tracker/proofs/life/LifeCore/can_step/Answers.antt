@@ -1,5 +1,5 @@
 use Rattle.std.proofs.Common.{length, sym, ap, ◌∙◌}
-use Rattle.ido_base.specs.Cores.{least_enabled}
+use Rattle.machine_events.specs.Cores.{least_enabled}
 use Rattle.run_tracker.specs.ObjectLives.{LifeConfig, living, opening_of}
 use Rattle.run_tracker.proofs.Events.{played_is}
 use Rattle.run_tracker.proofs.life.LifeCore.can_step.Goals as goal

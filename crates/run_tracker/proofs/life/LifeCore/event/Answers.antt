@@ -1,6 +1,6 @@
 use Rattle.std.proofs.Common.{Bool, length, sym, ap, subst, ◌∙◌}
-use Rattle.ido_base.specs.Cores.{IsValidNow}
-use Rattle.rv64_isa.specs.Machine.{IsEviction, can_start, reply_to}
+use Rattle.machine_events.specs.Cores.{IsValidNow}
+use Rattle.machine_model.specs.Machine.{IsEviction, can_start, reply_to}
 use Rattle.run_tracker.specs.ObjectLives.{LifeConfig, opening_of}
 use Rattle.run_tracker.proofs.Events.{played_is}
 use Rattle.run_tracker.proofs.life.LifeCore.event.Goals as goal

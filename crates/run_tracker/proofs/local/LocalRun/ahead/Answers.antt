@@ -1,6 +1,6 @@
 use Rattle.std.proofs.Common.{◌≡◌, ◌+◌, true, false, Option, Some, IfSome, refl, sym, ap, subst, ◌∙◌, arith}
 use Rattle.hart_core.specs.LocalSteps.{local_step}
-use Rattle.rv64_isa.specs.Schedule.{is_running}
+use Rattle.machine_model.specs.Schedule.{is_running}
 use Rattle.run_tracker.specs.declared.signs.Sign.{Sign}
 use Rattle.run_tracker.specs.links.SignTables.{placed_in, sign_at}
 use Rattle.run_tracker.proofs.LocalInvariants.{goes_on}

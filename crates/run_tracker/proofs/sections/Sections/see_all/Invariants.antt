@@ -1,6 +1,6 @@
 use Rattle.std.proofs.Common.{◌≡◌, ℕ, ◌<◌, ◌≤◌, length}
 use Rattle.ido_base.specs.Words.{word_at}
-use Rattle.rv64_isa.specs.Machine.{World, durable_point}
+use Rattle.machine_model.specs.Machine.{World, durable_point}
 use Rattle.ido_machine.specs.Machines.{RepresentsMachine}
 use Rattle.run_tracker.specs.links.AccountRepresentation.{point_word}
 use Rattle.run_tracker.specs.links.SectionRepresentation.{section_at, seen_at}

@@ -1,8 +1,8 @@
 use Rattle.std.proofs.Common.{◌≡◌, ◌<◌, ◌≤◌, ◌^◌, ℕ, List, ap₂, arith, length, subst, sym}
 use Rattle.std.specs.List.{AllByRecursion, AllZip}
-use Rattle.ido_base.specs.Layout.{log_of}
-use Rattle.ido_base.specs.declared.log.Log.{Log}
-use Rattle.ido_base.specs.declared.log.Log.TheVariants.{V2}
+use Rattle.log_schemes.specs.Layout.{log_of}
+use Rattle.log_schemes.specs.declared.log.Log.{Log}
+use Rattle.log_schemes.specs.declared.log.Log.TheVariants.{V2}
 use Rattle.c_tree.specs.Exprs as e
 use Rattle.c_tree.specs.links.KnownNames.{names_of}
 use Rattle.rv64_isa.specs.declared.instr.Instr.{Instr}

@@ -1,7 +1,7 @@
 use Rattle.std.proofs.Common.{List, ap, subst, sym}
 use Rattle.std.specs.Prelude.{Vec}
 use Rattle.std.specs.Global.{Global}
-use Rattle.ido_base.specs.declared.log.Log.{Log}
+use Rattle.log_schemes.specs.declared.log.Log.{Log}
 use Rattle.rv64_isa.specs.declared.instr.Instr.{Instr}
 use Rattle.expr_code.specs.EvaluationCode.{homes_of}
 use Rattle.boundary_code.specs.Boundaries.{lists_of}

@@ -1,0 +1,1 @@
+-- What crates above may use of this crate's proofs, passed on from one place. Declares nothing.

@@ -1,0 +1,57 @@
+//! Addresses within a thread's log: the point first, and from the next line on two banks of slots.
+ghost use Rattle.std.specs.Prelude.{◌≡◌};
+ghost use Rattle.log_schemes.specs.Layout.{log_of, point_at, slot_at};
+
+use crate::log::Log;
+use ido_base::limits::LINE_BYTES;
+
+/// The address of the first thread's log.
+pub const LOGS_BASE: u64 = 0x2000_0000;
+
+/// How far the first bank lies after the point.
+pub const FIRST_BANK: u64 = 64;
+
+/// Bytes of a slot.
+pub const SLOT_BYTES: u64 = 8;
+
+/// Slots of a line.
+pub const LINE_SLOTS: u8 = 8;
+
+/// Lines of a bank.
+pub const BANK_LINES: u8 = 4;
+
+/// The slot of the mask of held locks; slot r is register r.
+pub const MASK_SLOT: u32 = 0;
+
+/// The slot of the number of held locks, where a bank lists them.
+pub const COUNT_SLOT: u32 = 0;
+
+/// The first slot of a listed lock.
+pub const FIRST_LOCK_SLOT: u32 = 32;
+
+/// How many locks a bank lists at most.
+pub const MOST_LISTED: u64 = 16;
+
+/// The address of a thread's log.
+pub fn log_of(log: Log, thread: u32) -> u64
+    ensures { result ≡ log_of log thread }
+{
+    LOGS_BASE + LINE_BYTES * u64::from(log.lines()) * u64::from(thread)
+}
+
+/// The address of a thread's point, the first word of its log.
+pub fn point_at(log: Log, thread: u32) -> u64
+    ensures { result ≡ point_at log thread }
+{
+    log_of(log, thread)
+}
+
+/// The address of a slot of a bank, 0 or 1.
+pub fn slot_at(log: Log, thread: u32, bank: u32, slot: u32) -> u64
+    ensures { result ≡ slot_at log thread bank slot }
+{
+    log_of(log, thread)
+        + FIRST_BANK
+        + log.bank_bytes() * u64::from(bank)
+        + SLOT_BYTES * u64::from(slot)
+}

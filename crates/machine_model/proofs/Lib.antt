@@ -1,0 +1,6 @@
+pub mod Public
+mod Worked
+mod WorkedRuns
+mod StartedWorlds
+mod Frames
+mod EarlierLives

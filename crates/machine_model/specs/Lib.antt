@@ -1,0 +1,5 @@
+pub mod Objects
+pub mod Machine
+pub mod Executables
+pub mod Frames
+pub mod Schedule

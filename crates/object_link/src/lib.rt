@@ -1,0 +1,4 @@
+//! Objects of code with labels.
+#![tactic(auto)]
+
+pub mod link;
