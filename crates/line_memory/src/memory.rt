@@ -148,7 +148,7 @@ impl LineMemory {
         ensures { (words : List Word) → Represents self.now words
             → result ≡ durable_value (word_at words (word_number (point_at (log_in self.now) thread))) }
     {
-        self.durable_at(log::point_at(self.log, thread))
+        self.durable_at(addresses::point_at(self.log, thread))
     }
 
     /// The durable value of a slot of a bank of a thread's log.
@@ -159,7 +159,7 @@ impl LineMemory {
         ensures { (words : List Word) → Represents self.now words
             → result ≡ durable_value (word_at words (word_number (slot_at (log_in self.now) thread bank slot))) }
     {
-        self.durable_at(log::slot_at(self.log, thread, bank, slot))
+        self.durable_at(addresses::slot_at(self.log, thread, bank, slot))
     }
 
     /// What so many bytes from the address on hold, little-endian.
