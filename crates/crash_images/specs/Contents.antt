@@ -4,7 +4,7 @@ use Rattle.std.specs.List.{AllByRecursion}
 use Rattle.ido_base.specs.declared.limits.TheConstants.{MOST_THREADS, WORD_BYTES}
 use Rattle.log_schemes.specs.declared.log.Log.{Log}
 use Rattle.log_schemes.specs.declared.log.Log.TheVariants.{V1, V2}
-use Rattle.ido_base.specs.Layout as layout
+use Rattle.log_schemes.specs.Layout as layout
 use Rattle.file_fields.specs.Numbers.{IsNumber, IsWord}
 use Rattle.run_scripts.specs.Runs.{Run, runs_of}
 use Rattle.crash_images.specs.declared.version.ImageVersion.{ImageVersion}
