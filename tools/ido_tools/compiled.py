@@ -1,6 +1,6 @@
 """A source beside its nodes and its code, as the program tells them."""
 
-from ido_tools.code import NoLayout, ThreadCode, parse_listing, parse_regions
+from ido_tools.code import LOCALS, NoLayout, ThreadCode, parse_listing, parse_regions, result_of
 from ido_tools.fault import BadInput
 from ido_tools.source import Source
 
@@ -31,6 +31,34 @@ class Compiled:
             return ThreadCode(words, self.told[number])
         except NoLayout as error:
             raise BadInput(f"the words of thread {number} can't be given to its nodes: {error}") from error
+
+    def locals_at(self, number, boundary):
+        """The locals that stand in registers at a boundary of a thread, by the registers' numbers; one that can't be told is left out."""
+        code = self.threads[number]
+        at = next(it for it, piece in enumerate(code.pieces) if piece.boundary is boundary)
+        given = [self.given_by(number, it) for it in code.pieces]
+        before = [None] * len(code.pieces)
+        before[0], waiting = {}, [0]
+        while waiting:
+            piece = waiting.pop()
+            after = {**before[piece], **given[piece]}
+            for it in code.next_pieces(piece):
+                old = before[it]
+                met = after if old is None else {key: old.get(key, frozenset()) | after.get(key, frozenset()) for key in old.keys() | after.keys()}
+                if met != old:
+                    before[it] = met
+                    waiting.append(it)
+        return {register: next(iter(it)) for register, it in (before[at] or {}).items() if len(it) == 1}
+
+    def given_by(self, number, piece):
+        """Which locals may stand in registers to which a piece has given numbers."""
+        code = self.threads[number]
+        written = [int(it[1:]) for it in map(result_of, code.words[piece.start : piece.end]) if it in LOCALS]
+        named = [it.local for it in self.nodes[number][piece.first : piece.last + 1] if it.local is not None]
+        apart = [it for at, it in enumerate(written) if at == 0 or it != written[at - 1]]
+        if len(named) == len(apart):
+            return {register: frozenset([local]) for register, local in zip(apart, named)}
+        return {register: frozenset(named) if len(set(named)) == 1 else frozenset([*named, None]) for register in written}
 
     def where(self, number, address):
         """The place of the source that an address of a thread's code belongs to."""

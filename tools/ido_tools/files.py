@@ -6,6 +6,7 @@ import struct
 from ido_tools.fault import BadInput
 from ido_tools.limits import LINE_BYTES, LOG_LINES, VARIABLE_LINES
 from ido_tools.source import VARIABLES_FROM
+from ido_tools.texts import NULL
 
 OBJECT_HEAD = b"IDO-OBJ\n"
 IMAGE_HEAD = b"IDO-IMG\n"
@@ -17,6 +18,9 @@ BANKS = {1024: (64, 320), 2048: (64, 1088)}
 LIST_SLOT, MOST_LISTED = 32, 16
 BANK_SLOTS = LIST_SLOT + MOST_LISTED
 SLOT_BYTES = 8
+
+# Of a variable of more elements only so many are told.
+MOST_NUMBERS = 64
 
 # The registers of the store that a boundary before it keeps.
 PENDING_ADDRESS, PENDING_VALUE = 28, 29
@@ -113,8 +117,21 @@ def variable_numbers(variable, content):
     return [element_number(variable, it, content) for it in range(variable.length or 1)]
 
 
+def number_text(variable, number):
+    """A number of a variable as a text; of a reference the element, or null."""
+    if variable.refers is None:
+        return str(number)
+    return NULL if number is None else f"{variable.refers}[{number}]"
+
+
+def numbers_text(variable, numbers):
+    """A variable and its numbers, of which only the first are told where there are many."""
+    more = f" .. ({len(numbers)} elements)" if len(numbers) > MOST_NUMBERS else ""
+    return f"{variable.name} = {' '.join(number_text(variable, it) for it in numbers[:MOST_NUMBERS])}{more}"
+
+
 def changed_elements(source, before, after):
-    """The elements that differ, of the bytes of all variables before and after: their names, and their numbers after."""
+    """The elements that differ, of the bytes of all variables before and after: their names, and the texts of their numbers after."""
     found = []
     for it in source.variables if before != after else ():
         start, size = it.address - VARIABLES_FROM, it.kind.bytes
@@ -124,17 +141,26 @@ def changed_elements(source, before, after):
         for at in range(it.length or 1):
             if element_number(it, at, before) != element_number(it, at, after):
                 name = it.name if it.length is None else f"{it.name}[{at}]"
-                found.append((name, element_number(it, at, after)))
+                found.append((name, number_text(it, element_number(it, at, after))))
     return found
 
 
-def element_name(source, address):
-    """The element that stands at an address, as the source names it, or None."""
+def element_at(source, address):
+    """The variable that has an element at an address, and that element as the source names it; or None."""
     for it in source.variables:
         offset = address - it.address
         if 0 <= offset < it.kind.bytes * (it.length or 1) and offset % it.kind.bytes == 0:
-            return it.name if it.length is None else f"{it.name}[{offset // it.kind.bytes}]"
+            return it, it.name if it.length is None else f"{it.name}[{offset // it.kind.bytes}]"
     return None
+
+
+def kept_text(typed, number):
+    """A register that was kept, as the number of a variable or of a local's type that it has; of a reference the element, or null."""
+    if typed.refers is not None:
+        return number_text(typed, number - 1 if number else None)
+    bits = 8 * typed.kind.bytes
+    low = number % (1 << bits)
+    return str(low - (low >> bits - 1 << bits) if typed.kind.signed else low)
 
 
 def log_word(log, offset):

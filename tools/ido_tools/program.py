@@ -16,6 +16,9 @@ LAUNCHER = os.path.join(TOP, "ido")
 # The status by which ./ido says that it could not start the program.
 NOT_STARTED = 70
 
+# A variable of the environment that says how many calls of the program a tool makes at once.
+JOBS = "IDO_JOBS"
+
 # Answers of more bytes are not kept for another time.
 MOST_KEPT = 4096
 
@@ -28,9 +31,15 @@ def find_program(path=None):
     for it in candidates:
         if os.path.isfile(it) and os.access(it, os.X_OK):
             if path is None and it == LAUNCHER:
-                print("no proved program stands, so each call takes minutes: README.md says how to build it", file=sys.stderr)
+                print("no proved program stands: ./ido runs an unproved one, which it makes once, in about two minutes", file=sys.stderr)
             return os.path.abspath(it)
     raise BadInput(f"no program at {candidates[-1]}")
+
+
+def workers(most):
+    """How many calls of the program run at once: as many as there are processors, or as the environment's IDO_JOBS says."""
+    given = os.environ.get(JOBS, "")
+    return int(given) if given.isdigit() and 0 < int(given) <= 64 else max(2, min(most, os.cpu_count() or 2))
 
 
 class Program:
@@ -40,7 +49,7 @@ class Program:
         self.path = find_program(path)
         self.answers = {}
         self.calls = 0
-        self.pool = concurrent.futures.ThreadPoolExecutor(max_workers=max(2, min(8, os.cpu_count() or 2)))
+        self.pool = concurrent.futures.ThreadPoolExecutor(max_workers=workers(8))
 
     def start(self, words, content):
         """One call of the program, whatever was answered before."""

@@ -37,10 +37,13 @@ Type = collections.namedtuple("Type", "kind refers")
 # initialiser would stand, `initial` where one stands: from its `=` to its end.
 Variable = collections.namedtuple("Variable", "name kind refers length guard place address after_name initial")
 Thread = collections.namedtuple("Thread", "name place body closing")
-Function = collections.namedtuple("Function", "name place parameters body result")
+# `parameters` is how many there are, `locals` what these are.
+Function = collections.namedtuple("Function", "name place parameters body result locals")
+# A local: its name, its type, and the function that declares it (None of a thread's own).
+Local = collections.namedtuple("Local", "name type function")
 
 # Statements. `start` and `end` are bytes of the text; expressions are the numbers of their parts.
-Target = collections.namedtuple("Target", "is_local index_parts")
+Target = collections.namedtuple("Target", "is_local index_parts local", defaults=(None,))
 Assign = collections.namedtuple("Assign", "place end target parts")
 Call = collections.namedtuple("Call", "place end name arguments target")
 If = collections.namedtuple("If", "place arms otherwise")
@@ -51,8 +54,10 @@ Locking = collections.namedtuple("Locking", "kind place end lock")
 Lock = collections.namedtuple("Lock", "spelling key_parts")
 Arm = collections.namedtuple("Arm", "end parts body")
 
-# A node: its kind, its place, the end of its text, the parts of its expressions, and the locks that are held there.
-Node = collections.namedtuple("Node", "kind place end parts held")
+# A node: its kind, its place, the end of its text, the parts of its expressions, the locks that are held there, the local that it gives a number,
+# and the calls that it stands in, the outermost first.
+Node = collections.namedtuple("Node", "kind place end parts held local calls", defaults=(None, ()))
+Called = collections.namedtuple("Called", "place name")
 
 
 def tokens_of(text):
@@ -88,7 +93,7 @@ class Reader:
     def __init__(self, text):
         self.tokens = tokens_of(text)
         self.at = 0
-        self.scopes = []
+        self.scopes, self.owner = [], None
         self.mutexes, self.variables, self.threads, self.functions = [], [], [], {}
 
     def look(self, ahead=0):
@@ -158,6 +163,11 @@ class Reader:
         """Whether a name is that of a local here."""
         return any(name in it for it in self.scopes)
 
+    def local(self, name):
+        """The local of a name here, or None."""
+        found = next((it[name] for it in reversed(self.scopes) if name in it), None)
+        return None if found is None else Local(name, found, self.owner)
+
     def target(self):
         """What is assigned."""
         if self.taken("*"):
@@ -168,7 +178,7 @@ class Reader:
         if self.taken("["):
             index = self.parts()
             self.take("]")
-        return Target(self.is_local(name), index)
+        return Target(self.is_local(name), index, self.local(name))
 
     def arguments(self):
         """The arguments of a call, in their parentheses."""
@@ -208,9 +218,9 @@ class Reader:
     def declaration(self):
         """A declaration of a local, without its `;`."""
         start = self.tokens[self.at].start
-        self.type()
+        own_type = self.type()
         name = self.take().text
-        target = Target(True, None)
+        target = Target(True, None, Local(name, own_type, self.owner))
         made = Assign(start, self.last_end(), target, 1)
         if self.taken("="):
             if self.is_call():
@@ -220,13 +230,13 @@ class Reader:
             else:
                 parts = self.parts()
                 made = Assign(start, self.last_end(), target, parts)
-        self.scopes[-1].add(name)
+        self.scopes[-1][name] = own_type
         return made
 
     def block(self):
         """The statements of a block, in a scope of their own."""
         self.take("{")
-        self.scopes.append(set())
+        self.scopes.append({})
         made = self.statements()
         self.scopes.pop()
         self.take("}")
@@ -317,7 +327,7 @@ class Reader:
         """A `for`, as its first part and a loop."""
         place = self.take("for").start
         self.take("(")
-        self.scopes.append(set())
+        self.scopes.append({})
         first = []
         if self.look() != ";":
             first = [self.declaration() if self.comes_type() else self.assignment()]
@@ -336,8 +346,9 @@ class Reader:
         if not self.taken("void"):
             self.type()
         name = self.take()
-        self.scopes = [set()]
+        self.scopes, self.owner = [{}], name.text
         parameters = self.parameters()
+        parameter_locals = [Local(it, kind, name.text) for it, kind in self.scopes[0].items()]
         self.take("{")
         body = self.statements()
         result = None
@@ -345,8 +356,8 @@ class Reader:
             result = None if self.look() == ";" else self.parts()
             self.take(";")
         self.take("}")
-        self.scopes = []
-        self.functions[name.text] = Function(name.text, name.start, parameters, body, result)
+        self.scopes, self.owner = [], None
+        self.functions[name.text] = Function(name.text, name.start, parameters, body, result, parameter_locals)
 
     def parameters(self):
         """How many parameters a function has; they are noted as locals."""
@@ -355,8 +366,8 @@ class Reader:
         while not self.taken(")"):
             if self.taken("void"):
                 continue
-            self.type()
-            self.scopes[-1].add(self.take().text)
+            own_type = self.type()
+            self.scopes[-1][self.take().text] = own_type
             self.taken(",")
             count += 1
         return count
@@ -478,10 +489,14 @@ class Source:
     def nodes(self, thread):
         """The nodes of a thread, in their order."""
         found = []
-        self.held = ()
+        self.held, self.calls = (), ()
         self.add_statements(thread.body, found)
-        found.append(Node("end", thread.closing, thread.closing + 1, 0, self.held))
+        self.add("end", thread.closing, thread.closing + 1, 0, self.held, found)
         return found
+
+    def add(self, kind, place, end, parts, held, found, local=None):
+        """Adds a node."""
+        found.append(Node(kind, place, end, parts, held, local, self.calls))
 
     def add_statements(self, statements, found):
         """Adds the nodes of statements."""
@@ -497,15 +512,15 @@ class Source:
         elif isinstance(statement, If):
             self.add_choice(statement, found)
         elif isinstance(statement, While):
-            found.append(Node("test", statement.place, statement.end, statement.parts, self.held))
+            self.add("test", statement.place, statement.end, statement.parts, self.held, found)
             self.add_statements(statement.body, found)
         elif isinstance(statement, Do):
             self.add_statements(statement.body, found)
-            found.append(Node("test", statement.place, statement.end, statement.parts, self.held))
+            self.add("test", statement.place, statement.end, statement.parts, self.held, found)
         else:
             lock = statement.lock
             others = tuple(it for it in self.held if it != lock)
-            found.append(Node(statement.kind, statement.place, statement.end, lock.key_parts or 0, (*others, lock)))
+            self.add(statement.kind, statement.place, statement.end, lock.key_parts or 0, (*others, lock), found)
             self.held = found[-1].held if statement.kind == "lock" else others
 
     def add_choice(self, statement, found):
@@ -513,25 +528,27 @@ class Source:
         before = self.held
         for arm in statement.arms:
             self.held = before
-            found.append(Node("test", statement.place, arm.end, arm.parts, before))
+            self.add("test", statement.place, arm.end, arm.parts, before, found)
             self.add_statements(arm.body, found)
         self.held = before
         self.add_statements(statement.otherwise, found)
 
     def add_assignment(self, place, end, target, parts, found):
         """Adds the nodes of an assignment."""
-        found.append(Node("eval", place, end, parts + (target.index_parts or 0), self.held))
+        self.add("eval", place, end, parts + (target.index_parts or 0), self.held, found, target.local)
         if not target.is_local:
-            found.append(Node("store", place, end, 0, self.held))
+            self.add("store", place, end, 0, self.held, found)
 
     def add_call(self, call, found):
         """Adds the nodes that a call becomes."""
         if self.statement_size(call) == 0:
             return
-        function = self.functions[call.name]
-        for parts in call.arguments:
-            found.append(Node("eval", call.place, call.end, parts, self.held))
+        function, outer = self.functions[call.name], self.calls
+        self.calls = (*outer, Called(call.place, call.name))
+        for parts, local in zip(call.arguments, function.locals):
+            self.add("eval", call.place, call.end, parts, self.held, found, local)
         self.add_statements(function.body, found)
+        self.calls = outer
         if call.target is not None:
             self.add_assignment(call.place, call.end, call.target, function.result or 0, found)
 

@@ -1,121 +1,80 @@
 """Scripts event by event: how many events each line makes, beginnings, and what brings a recovery to its end."""
 
+import re
+
 from ido_tools.fault import BadInput
-from ido_tools.files import log_word, parse_image, point_line
-from ido_tools.limits import MOST_EVENTS, MOST_STEPS_TO
-from ido_tools.texts import Line, join_input, line_text, parse_unsettled, script_bytes
+from ido_tools.limits import MOST_EVENTS, MOST_SWEEP_EVENTS
+from ido_tools.program import said_by
+from ido_tools.texts import Line, join_input, line_text, script_bytes
 
-# How far it is looked step by step for what a line of `b` or `f` waits for, and how many plays at once.
-MOST_SCANNED = 512
-BATCH = 16
+# The lines whose events the program counts.
+COUNTED = ("b", "f", "g")
 
-# A point that was stored stays at least so many steps, and so does a hart that holds no mutex any more: the code of a
-# boundary, and that of a call, lie between.
-POINT_STRIDE = 4
-RELEASE_STRIDE = 2
+# A line that passes a limit, and where a later life can't begin.
+PAST = re.compile(rb"refused (E1|E7) at (\d+):1\n\Z")
+EARLY = b"refused E6 "
+
+# So many steps each line has that comes first behind a script of more events than a sweep takes.
+COARSE = 2_000
 
 # The steps of each hart in a round of a recovery that are tried first, and by how many times more are tried next.
 FIRST_ROUND = 2_000
 MORE = 20
 
-CRASH = Line("c", None, None)
+CRASH, START = Line("c", None, None), Line("r", None, None)
+
+
+def with_count(line, count):
+    """A line of `s` or `g` with another number of steps."""
+    return line._replace(first=count) if line.letter == "g" else line._replace(second=count)
+
+
+def count_in(line):
+    """The number of steps that a line of `s` or `g` says, or None."""
+    return {"s": line.second, "g": line.first}.get(line.letter)
 
 
 class Steps:
     """The events of a script, one by one."""
 
-    def __init__(self, program, source, lines):
+    def __init__(self, program, source, lines, counts=None):
         self.program, self.source, self.lines = program, source, lines
+        self.ends = {}
+        if counts is None:
+            waiting = [it + 1 for it, line in enumerate(lines) if line.letter in COUNTED]
+            self.ends = dict(zip(waiting, program.pool.map(lambda it: self.events_of(lines[:it]), waiting))) if waiting else {}
         self.starts = [0]
-        for number in range(len(lines)):
-            self.starts.append(self.starts[-1] + self.count(number))
+        for number, line in enumerate(lines):
+            plain = line.second if line.letter == "s" else 1
+            more = plain if counts is None else counts[number]
+            self.starts.append(self.ends.get(number + 1, self.starts[-1] + more))
 
     def total(self):
         """How many events there are."""
         return self.starts[-1]
 
-    def count(self, number):
-        """How many events a line makes."""
-        line = self.lines[number]
-        if line.letter == "s":
-            return line.second
-        return self.count_to(number) if line.letter in ("b", "f") else 1
+    def events_of(self, lines):
+        """How many events these lines make: as many as leave room for so many more before the program's limit."""
+        if not self.source.threads:
+            return sum(it.letter in ("c", "e", "r") for it in lines)
+        singles = [Line("s", 0, 1)] * (MOST_SWEEP_EVENTS + 1)
+        found = self.passes("sweep", lines, singles)
+        if found is not None:
+            return MOST_SWEEP_EVENTS - found
+        coarse = self.passes("play", lines, [Line("s", 0, COARSE)] * (MOST_EVENTS // COARSE + 1))
+        whole = [Line("s", 0, COARSE * coarse)]
+        fine = self.passes("play", [*lines, *whole], singles[: COARSE + 1])
+        return MOST_EVENTS - COARSE * coarse - fine
 
-    def count_to(self, number):
-        """How many events a line of `b` or `f` makes."""
-        before, line = self.lines[:number], self.lines[number]
-        count = self.point_stored(before, line.first) if line.letter == "b" else self.fence_finished(before, line)
-        return self.count_by_limit(number) if count is None else count
-
-    def point(self, lines, hart):
-        """The live point of a hart after these lines: evicted, it is what an image has."""
-        content = self.program.ask_well(["image"], self.input([*lines, Line("e", point_line(hart), 1)]))
-        return log_word(parse_image(content, len(self.source.threads)).logs[hart], 0)
-
-    def is_unsettled(self, lines, hart):
-        """Whether a hart isn't settled after these lines."""
-        answer = self.program.ask(["play"], self.input(lines))
-        return answer.status == 3 and hart in parse_unsettled(answer.output)
-
-    def point_stored(self, lines, hart):
-        """After how many steps of a hart its point is another one, or None. A hart never stores the point that it has."""
-        old = self.point(lines, hart)
-        return self.first_step(lambda steps: self.point([*lines, Line("s", hart, steps)], hart) != old, POINT_STRIDE)
-
-    def released(self, lines, hart):
-        """After how many steps a hart is settled that isn't, or None."""
-        if not self.is_unsettled(lines, hart):
-            return None
-        return self.first_step(lambda steps: not self.is_unsettled([*lines, Line("s", hart, steps)], hart), RELEASE_STRIDE)
-
-    def fence_finished(self, lines, line):
-        """After how many steps a hart finishes a fence, or None where that isn't found. What comes next, a point that is
-        stored or the release of the last mutex, comes after so many steps before the fence and so many after it."""
-        hart, after, stored = line.first, [*lines, line], 0
-        if self.point(lines, hart) != self.point(after, hart):
-            stored = self.point_stored(lines, hart)
-            lines = [*lines, Line("s", hart, stored)]
-        for what in (self.point_stored, self.released):
-            left = what(after, hart)
-            both = None if left is None else what(lines, hart)
-            if both is not None:
-                return stored + both - left
-        return None
-
-    def first_step(self, is_so, stride):
-        """The least number of steps after which something is so, or None where that isn't found soon. Once it is so, it is so
-        for as many steps as the stride."""
-        for start in range(0, MOST_SCANNED, BATCH * stride):
-            probes = range(start + stride, start + stride * (BATCH + 1), stride)
-            found = [it for it, so in zip(probes, self.program.pool.map(is_so, probes)) if so]
-            if found:
-                near = range(found[0] - stride + 1, found[0])
-                return next((it for it, so in zip(near, self.program.pool.map(is_so, near)) if so), found[0])
-        return None
-
-    def count_by_limit(self, number):
-        """How many events a line makes: as many as the program, which has a limit, leaves no room for."""
-        low, high = 0, min(MOST_STEPS_TO, MOST_EVENTS - self.starts[-1])
-        while low < high:
-            middle = (low + high) // 2
-            if self.is_past(self.program.ask(["play"], self.filled(number, middle))):
-                low = middle + 1
-            else:
-                high = middle
-        return low
-
-    def filled(self, number, events):
-        """The lines up to one, and as many steps more as fit where it makes so many events."""
-        left = MOST_EVENTS - self.starts[-1] - events
-        return self.input([*self.lines[: number + 1], Line("s", 0, left)])
-
-    def is_past(self, answer):
-        """Whether the program found too many events; any other refusal is a fault of the input."""
-        if answer.status in (0, 3):
-            return False
-        if answer.output.startswith(b"refused E1 "):
-            return True
-        raise BadInput(f"the program refuses the script: {answer.output.decode('utf-8', 'replace').strip()}")
+    def passes(self, command, lines, more):
+        """How many of the lines of steps behind a script stay within the limit of a command, or None where the script itself doesn't."""
+        own = self.input(lines)
+        answer = self.program.start([command], own + script_bytes(more))
+        match = PAST.match(answer.output)
+        if match is None:
+            raise BadInput(f"the program refuses the script: {said_by(answer)}")
+        at = int(match[2]) - own.count(b"\n") - 1
+        return at if at >= 0 else None
 
     def input(self, lines):
         """The input of a play of this source by these lines."""
@@ -129,8 +88,10 @@ class Steps:
         raise IndexError(event)
 
     def what(self, event):
-        """What an event is: its letter and its hart, or the numbers of its eviction."""
+        """What an event is: a step of a hart (of None where the program chooses it), an eviction, a crash or a start."""
         line = self.lines[self.line_at(event)[0]]
+        if line.letter == "g":
+            return Line("s", None, 1)
         return Line("s", line.first, 1) if line.letter in ("s", "b", "f") else line
 
     def between(self, first, last):
@@ -140,12 +101,22 @@ class Steps:
             start, end = self.starts[number], self.starts[number + 1]
             begin, finish = max(first, start), min(last, end)
             if begin < finish:
-                found.append(line if (begin, finish) == (start, end) else Line("s", line.first, finish - begin))
+                found.append(self.part(line, finish - begin))
         return found
+
+    def part(self, line, count):
+        """So many of the events of a line."""
+        if line.letter in ("s", "g"):
+            return with_count(line, count)
+        return Line("s", line.first, count) if line.letter in ("b", "f") else line
 
     def beginning(self, events):
         """Lines of the first so many events."""
         return self.between(0, events)
+
+    def stops(self):
+        """The numbers of events after which a crash or a start comes."""
+        return [self.starts[it] for it, line in enumerate(self.lines) if line.letter in ("c", "r")]
 
 
 def recovery_lines(threads, steps):

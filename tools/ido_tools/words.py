@@ -1,4 +1,4 @@
-"""The words of the language and of the program, which the files for editors, shells and manuals are made of."""
+"""The words of the language, of scripts and of the program: the one list that tools, files for editors, shells and manuals are made of."""
 
 DECLARATIONS = "mutex persistent thread".split()
 LOCKS = "lock unlock".split()
@@ -12,9 +12,26 @@ PUNCTUATORS = (
     " ( ) [ ] { } ; , ? : = + - * / % & | ^ ~ ! < >"
 ).split()
 
-# Lines of scripts, and the word with which the schedule of a life begins.
-SCRIPT_LETTERS = "s b f g e c r".split()
+# Lines of scripts: the letter, the numbers behind it, and what the line does.
+SCRIPT_LINES = (
+    ("s", "HART N", "so many steps of the hart"),
+    ("b", "HART", "steps of the hart up to the first that stores its point"),
+    ("f", "HART", "steps of the hart up to the first that finishes a fence"),
+    ("g", "N", "so many steps, each of the least hart that neither waits nor has stopped"),
+    ("e", "LINE MASK", "the words of the line of memory that the mask chooses become durable"),
+    ("c", "", "a crash"),
+    ("r", "", "a start: another life begins, in which each thread runs again, on what the variables are"),
+)
+SCRIPT_LETTERS = [it[0] for it in SCRIPT_LINES]
+
+# A line that splits an input in two: what stands before the first one is the source.
+MARK = "%%"
+# The word with which the schedule of a life begins.
 SCHEDULE = "schedule"
+
+# What an input is of which the program takes the part before a line `%%` as the source.
+WITH_SCRIPT = f"a source, a line `{MARK}`, a script"
+WITH_SCHEDULE = f"a source, a line `{MARK}`, a schedule"
 
 # Each command with the words behind it, its input and its output.
 COMMANDS = (
@@ -22,23 +39,27 @@ COMMANDS = (
     ("list", "", "an object file", "the listing of its code"),
     ("regions", "[--least]", "a source", "its nodes, and the boundaries chosen among them; with `--least` how few there are in straight code too"),
     ("order", "", "a source", "`ordered`, or the first lock that is taken out of order"),
-    ("play", "", "a source, a line `%%`, a script", "the report of a run of the compiled source"),
-    ("image", "", "a source, a line `%%`, a script", "the image file that a crash after that run would leave"),
+    ("play", "", WITH_SCRIPT, "the report of a run of the compiled source"),
+    ("image", "", WITH_SCRIPT, "the image file that a crash after that run would leave"),
     ("recover", "TURNS", "an image file", "the report of the run that goes on from it, on threads"),
     ("upgrade", "TURNS", "an image file of an older version", "the image file of the newest that is left of that run, where it is settled"),
-    ("source", "", "a source, a line `%%`, a schedule", "the report of the source's own run"),
+    ("source", "", WITH_SCHEDULE, "the report of the source's own run"),
     ("seeded", "SEED TURNS [CRASH]...", "a source", "the report of a run of it that is drawn from the seed"),
     ("live", "TURNS [CRASH]... [--evict SEED] [--journal]", "a source", "the report of a run of it on threads, or with `--journal` that run, as an input of `play`"),
     ("make", "N SEED", "no input", "a source of four threads, which make N rounds each"),
     ("load", "N SEED", "no input", "that source is run on threads to its end, and what it left summed up"),
-    ("sweep", "", "a source, a line `%%`, a script", "the reports after a crash at each point of that run, equal ones told once"),
+    ("sweep", "", WITH_SCRIPT, "the reports after a crash at each point of that run, equal ones told once"),
 )
+# The commands that take a script, a schedule, and either of them: their inputs split.
+SCRIPTED = [name for name, _, given, _ in COMMANDS if given == WITH_SCRIPT]
+SCHEDULED = [name for name, _, given, _ in COMMANDS if given == WITH_SCHEDULE]
+SPLITS = SCRIPTED + SCHEDULED
 
 # Words that the script ./ido takes before a command.
 OPTIONS = (
     ("--explain", "Runs the command that follows, and says on standard error what a refusal means, where it stands, and what to write instead."),
-    ("--help", "Says on standard error which words are taken."),
-    ("--version", "Says on standard error which kit the repository is proved with."),
+    ("--help", "Says which words are taken."),
+    ("--version", "Says which kit the repository is proved with."),
 )
 
 STATUSES = (
@@ -50,5 +71,5 @@ STATUSES = (
     (5, "The output could not be written."),
     (6, "The script, the schedule or the file is refused, or is too long."),
     (7, "Memory is wanting."),
-    (70, "The script `./ido` could neither start the program nor try it."),
+    (70, "The script `./ido` could neither start the program nor make it."),
 )
