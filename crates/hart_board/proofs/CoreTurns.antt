@@ -133,10 +133,12 @@ module _ {C M : Type 0} (b : Behaviour M) (opening : C → M) (history : C → L
       → q.made ≤ q.turns → length (history core) ≤ q.ceiling → IsOwn (hart_count k.terms.opening.value) q.seat event
       → TurnGives b opening history hart_count core q event most result
       → last_made result ≡ last_reply (Cs k.terms).reply (events_of k.seen) (events_made event result)
+      → (length k.seen < k.terms.seats → q.seat ≡ length k.seen)
       → IsTurn (Cs k.terms) k.terms.turns k.terms.ceiling k.seen (made_entry q.seat event result)
-  is_turn k q event most core None p is turns ceiling few under own done replied =
+  is_turn k q event most core None p is turns ceiling few under own done replied first =
       let len : length (history core) ≡ length (history k.terms.opening.value) + length (events_of k.seen) =
       ap length p.events_are ∙ length-append (history k.terms.opening.value) (events_of k.seen) in record {
+        first = first;
         own = All-nil _;
         over = ((λ _. (over_is k q [] core p is turns ceiling).0 done), λ _. refl);
         each = λ xs ys x e. absurd (no_cut xs x ys e);
@@ -145,16 +147,17 @@ module _ {C M : Type 0} (b : Behaviour M) (opening : C → M) (history : C → L
         within_ceiling = omega (arith, under, len, ceiling);
         reply = replied;
       }
-  is_turn k q event most core (Some made) p is turns ceiling few under own m replied =
+  is_turn k q event most core (Some made) p is turns ceiling few under own m replied first =
       let len : length (history core) ≡ length (history k.terms.opening.value) + length (events_of k.seen) =
       ap length p.events_are ∙ length-append (history k.terms.opening.value) (events_of k.seen) in
       let count = length-replicate made.count event in let wt = m.within_turns in let wc = m.within_ceiling in
       let not_over : (xs ys : List Event) (x : Event) → replicate made.count event ≡ xs ++ x ∷ ys →
       ¬ IsOver (Cs k.terms) k.terms.turns k.terms.ceiling k.seen q.seat xs =
       (λ xs ys x e o. m.each xs ys x e ((over_is k q xs core p is turns ceiling).1 o)) in
-      let first = some_first made.count event m.some in record {
+      let start = some_first made.count event m.some in record {
+        first = first;
         own = all_replicate (IsOwn (hart_count k.terms.opening.value) q.seat) made.count event own;
-        over = ((λ e. absurd (cc (sym first.1 ∙ e))), λ o. absurd (not_over [] first.0 event first.1 o));
+        over = ((λ e. absurd (cc (sym start.1 ∙ e))), λ o. absurd (not_over [] start.0 event start.1 o));
         each = not_over;
         moves = λ xs ys x y e. ap (λ (w : M). is_idle (b.reply w x)) (sym (same_place k.terms (events_of k.seen) xs core p)) ∙ m.moves xs ys x y e;
         within_turns = omega (arith, is, turns, wt, count);

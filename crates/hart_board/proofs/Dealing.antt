@@ -1,5 +1,5 @@
 -- Seats that are dealt, one after another.
-use Rattle.std.proofs.Common.{◌≡◌, ℕ, zero, suc, ◌+◌, ◌<◌, List, [], ◌∷◌, ◌++◌, length, None, Option, sym, refl, ap, ◌∙◌, subst, arith, get_or, ◌⊎◌, ⊎_elim}
+use Rattle.std.proofs.Common.{◌≡◌, ℕ, zero, suc, ◌+◌, ◌<◌, List, [], ◌∷◌, ◌++◌, length, None, Some, ◌^◌, Option, sym, refl, ap, ◌∙◌, subst, arith, get_or, ◌⊎◌, ⊎_elim}
 use Rattle.std.specs.Prelude.{All}
 use Rattle.std.proofs.lemmas.List.{map-append, length-map}
 use Rattle.std.proofs.lemmas.List.Elements.{All-push}
@@ -27,9 +27,9 @@ module _ {C L : Type 0} (history : C → List Event) (space : C → ℕ) (runs :
   -- a seat that has just its number is one of the board
   pub new_seat : (s : Seat C L) (n : ℕ) → s.place.table_id ≡ board.table.shared.table_id → s.place.me ≡ (Seated (dealt board.table.shared.key (n ∷ [])), []) →
       s.number ≡ n → s.turns ≡ turns_of board → s.ceiling ≡ ceiling_of board
-      → s.made ≡ 0 → s.ticket ≡ None → n < seats_of board → IsInReach history space board.table.shared.key →
+      → s.made ≡ 0 → s.ticket ≡ Some n → n < 2 ^ 32 → n < seats_of board → IsInReach history space board.table.shared.key →
       runs (opening_core board) s.number s.local → IsNew s
-  new_seat s n table me is turns ceiling made none inside reach ahead = (
+  new_seat s n table me is turns ceiling made has small inside reach ahead = (
     record {
       seat = record {
         known = dealt board.table.shared.key (n ∷ []);
@@ -42,7 +42,8 @@ module _ {C L : Type 0} (history : C → List Event) (space : C → ℕ) (runs :
           ceiling_is = ceiling;
           made_is = made;
           within = omega (arith, made);
-          ticket_is = ticketless s none;
+          ticket_is = subst (λ (z : Option ℕ). HasTicket z (dealt board.table.shared.key (n ∷ []))) (sym has) (refl, (n, refl, omega (arith, small)));
+          first = λ t is_t below. is ∙ cc is_t;
         };
         terms_are = refl;
         inside = omega (arith, inside, is);
@@ -52,9 +53,6 @@ module _ {C L : Type 0} (history : C → List Event) (space : C → ℕ) (runs :
     },
     ap (λ (m : _). seen_in m.0) me,
   )
-    where
-      ticketless : (s : Seat C L) → s.ticket ≡ None → HasTicket s.ticket (dealt board.table.shared.key (n ∷ []))
-      ticketless s none = subst (λ (z : Option ℕ). HasTicket z (dealt board.table.shared.key (n ∷ []))) (sym none) (refl, refl)
 
   -- one seat more in the row
   pub row_more : (xs ys : List (Seat C L)) (s : Seat C L) (n : ℕ) → ys ≡ xs ++ s ∷ [] → numbers_of xs ≡ numbers_from 0 n → All IsNew xs → s.number ≡ n →

@@ -1,5 +1,6 @@
 -- A board at its start.
-use Rattle.std.proofs.Common.{◌≡◌, ℕ, zero, suc, ◌+◌, ◌^◌, ◌<◌, List, [], ◌∷◌, length, sym, refl, ap, ◌∙◌, subst, inl, arith, cond}
+use Rattle.std.proofs.Common.{◌≡◌, ℕ, zero, suc, ◌+◌, ◌^◌, ◌<◌, ◌≤◌, List, [], ◌∷◌, length, sym, refl, ap, ◌∙◌, subst, inl, arith, cond, eq-eqb}
+use Rattle.std.proofs.Common.{Some, le_refl}
 use Rattle.std.specs.Prelude.{nat_lt}
 use Rattle.std.proofs.lemmas.List.Elements.{All-nil}
 use Rattle.std.proofs.lemmas.List.{append-nil}
@@ -13,7 +14,7 @@ use Rattle.hart_board.specs.declared.views.Known.{Known}
 use Rattle.hart_board.specs.declared.views.View.{View}
 use Rattle.hart_board.specs.declared.views.View.TheVariants.{Seated}
 use Rattle.hart_board.specs.Journals.{Play, IsLegal}
-use Rattle.hart_board.specs.BoardRule.{times, numbers_from, newcomer, KnownInv, ViewInv, BoardInv}
+use Rattle.hart_board.specs.BoardRule.{times, Has, numbers_from, first_ticket, newcomer, KnownInv, ViewInv, BoardInv}
 use Rattle.hart_board.specs.CoreTurns.{IsPlayed}
 use Rattle.hart_board.proofs.StepsKeepInv.{is_seated}
 
@@ -28,6 +29,15 @@ times_from n at (suc count) = let rest = times_from n (at + 1) count in grind (a
 pub times_below : (n count : ℕ) → times n (numbers_from 0 count) + 0 ≡ cond (nat_lt n count) 1 0
 times_below n count = let h = times_from n 0 count in grind (arith, nat_tests, h)
 
+-- the ticket is that of the first number
+pub first_from : (at count t : ℕ) → first_ticket (numbers_from at count) ≡ Some t → (t ≡ at) × (0 < count)
+first_from at zero t is = absurd (cc is)
+first_from at (suc count) t is = (cc is, omega arith)
+
+pub first_has : (ns : List ℕ) (t : ℕ) → first_ticket ns ≡ Some t → Has t ns
+first_has [] t is = absurd (cc is)
+first_has (n ∷ ns) t is = let one : times t (n ∷ []) ≡ 1 = simp (eq-eqb n t (cc is)) refl in omega (arith, one)
+
 module _ {C : Type 0} (c : Play) (is_play : List Event → C → Type 0) (terms : Terms C) where
   nothing_legal : IsLegal c terms.turns terms.ceiling []
   nothing_legal [] e after q = absurd (cc q)
@@ -41,29 +51,33 @@ module _ {C : Type 0} (c : Play) (is_play : List Event → C → Type 0) (terms 
   first_only zero v e = refl
   first_only (suc i) v e = absurd (some-ne-none v (sym e))
 
-  fits : KnownInv c is_play terms [] 0 (newcomer terms)
-  fits = record {
+  fits : (drawn : ℕ) → terms.seats ≤ drawn → KnownInv c is_play terms [] drawn (newcomer terms)
+  fits drawn all = record {
     terms_are = refl;
     begins = ([], refl);
     own = λ n has. refl;
     past = All-nil _;
-    few = omega arith;
-    waits = λ t e. absurd (cc e);
+    few = le_refl (length (numbers_from 0 terms.seats));
+    waits = λ t e. let h = first_from 0 terms.seats t e in let n = count_from 0 terms.seats in
+        let same = h.0 in let some = h.1 in (omega arith, omega (arith, same, some, all), omega (arith, some, n));
     served = λ e. absurd (cc e);
+    first = λ t e below. first_has (numbers_from 0 terms.seats) t e;
   }
 
-  pub opens : (core : C) → terms.seats < 2 ^ 32 → is_play [] core → BoardInv c is_play terms (opening (0 ∷ 0 ∷ []) (core ∷ []) (Seated (newcomer terms)))
+  pub opens : (core : C) → terms.seats < 2 ^ 32 → is_play [] core → BoardInv c is_play terms (opening (0 ∷ terms.seats ∷ []) (core ∷ []) (Seated (newcomer terms)))
   opens core few plays = record {
     journal = [];
     legal = nothing_legal;
     seats = All-nil _;
     two = refl;
     serving = refl;
-    ticket = refl;
+    ticket = (let n = count_from 0 terms.seats in omega (arith, n, few));
     numbers = λ n. times_below n terms.seats;
     count = let h = count_from 0 terms.seats in omega (arith, h);
     few = few;
-    each = λ i v e. subst (ViewInv c is_play terms [] 0) (alone i v e) fits;
+    dealt = (let n = count_from 0 terms.seats in omega (arith, n));
+    each = λ i v e. subst (ViewInv c is_play terms [] (length (numbers_from 0 terms.seats) + 0)) (alone i v e)
+        (fits (length (numbers_from 0 terms.seats) + 0) (let n = count_from 0 terms.seats in omega (arith, n)));
     apart = λ i j t k l at_i at_j a b. first_only i (Seated k) at_i ∙ sym (first_only j (Seated l) at_j);
     slot = inl ((core, refl, plays), λ i k e. ap (λ (z : Known C). z.in_turn) (sym (is_seated (newcomer terms) k (alone i (Seated k) e))));
   }

@@ -19,9 +19,10 @@ use Rattle.hart_board.specs.declared.views.Known.{Known}
 use Rattle.hart_board.specs.declared.views.View.{View}
 use Rattle.hart_board.specs.declared.views.View.TheVariants.{Spent, Seated}
 use Rattle.hart_board.specs.Journals.{Play, events_of, IsLegal}
-use Rattle.hart_board.specs.BoardRule.{times, Has, rest_of, first_of, drawn_in, numbers_in, all_drawn, without_first, first_alone}
+use Rattle.hart_board.specs.BoardRule.{total, times, Has, numbers_from, dealt, drawn_in, numbers_in, all_drawn}
 use Rattle.hart_board.specs.BoardRule.{beside, KnownInv, ViewInv, IsHome, IsAway, BoardInv, IsPast, longer, now_of, met, noted, Closed}
 use Rattle.hart_board.proofs.StepsKeepInv.{is_seated}
+use Rattle.hart_board.proofs.FirstState.{count_from, first_from, first_has}
 use Rattle.hart_board.proofs.Prefixes.{prefix_self, prefix_shorter}
 use Rattle.hart_board.proofs.Journals.{entries_between, all_seen}
 use Rattle.hart_board.proofs.Sums.{sum_set, sum_more, term_below, terms_below}
@@ -39,50 +40,92 @@ module _ {C : Type 0} (c : Play) (is_play : List Event → C → Type 0) (terms 
   abbrev At : State C (View C) → Type 0
   At = BoardInv c is_play terms
 
-  -- the first number of a seat that has drawn no ticket goes to a seat of its own
-  pub splits : (id n : ℕ) (ns : List ℕ) (k : Known C) → k.numbers ≡ n ∷ ns → k.drawn ≡ 0 → k.ticket ≡ None → k.in_turn ≡ false
-      → Splits At id (Seated k) (without_first (Seated k)) (first_alone (Seated k))
-  splits id n ns k mine none_drawn no_ticket out s r at =
-      let l : Known C = record k { numbers = rest_of k.numbers; past = [] } in
-      let m : Known C = beside k (first_of k.numbers) in
+  either_way : (b : Bool) (X Y Z : Type 0) → (b ≡ true → X) → (b ≡ false → Y) → (X → Z) → (Y → Z) → Z
+  either_way true X Y Z x y f g = f (x refl)
+  either_way false X Y Z x y f g = g (y refl)
+
+  inside : (s : State C (View C)) (r : At s) (i t : ℕ) (v : View C) → get_elem? s.views i ≡ some v → Has t (numbers_in v) → t < terms.seats
+  inside s r i t v at has =
+      let here = term_below (λ (u : View C). times t (numbers_in u)) s.views i v at in let all = r.numbers t in
+      within (nat_lt t terms.seats) refl (omega (arith, here, all, has))
+    where
+      within : (b : Bool) → nat_lt t terms.seats ≡ b → 0 < cond b 1 0 → t < terms.seats
+      within true is pos = grind (arith, nat_tests)
+      within false is pos = absurd (omega arith)
+
+  -- where each number is one view's, and tickets of the first turns are such numbers, no two views have the same of these tickets
+  first_apart : (views : List (View C)) → ((n : ℕ) → total (λ v. times n (numbers_in v)) views ≡ cond (nat_lt n terms.seats) 1 0) →
+      (i j t : ℕ) (p q : Known C) → get_elem? views i ≡ some (Seated p) → get_elem? views j ≡ some (Seated q) → Has t p.numbers → Has t q.numbers → i ≡ j
+  first_apart views numbers i j t p q at_i at_j mine theirs = dite (ℕ_discrete i j) (λ e. e)
+      (λ not. absurd (let both = terms_below (λ (v : View C). times t (numbers_in v)) views j i (Seated q) (Seated p) not at_j at_i in
+      let all = numbers t in let most = at_most_one (nat_lt t terms.seats) in omega (arith, both, all, most, mine, theirs)))
+    where
+      at_most_one : (b : Bool) → cond b 1 0 ≤ 1
+      at_most_one true = le_refl 1
+      at_most_one false = omega arith
+
+  -- the first number of a seat that is dealt goes to a seat of its own, with its ticket
+  pub splits : (id n m : ℕ) → Splits At id (Seated (dealt terms (n ∷ numbers_from (n + 1) m))) (Seated (dealt terms (numbers_from (n + 1) m)))
+      (Seated (dealt terms (n ∷ [])))
+  splits id n m s r at =
+      let ns : List ℕ = numbers_from (n + 1) m in
+      let k : Known C = dealt terms (n ∷ ns) in
+      let l : Known C = dealt terms ns in
+      let a : Known C = dealt terms (n ∷ []) in
       let vs : List (View C) = set s.views id (Seated l) in
-      let views : List (View C) = vs ++ Seated m ∷ [] in
+      let views : List (View C) = vs ++ Seated a ∷ [] in
       let f : KnownInv c is_play terms r.journal (all_drawn s.views) k = r.each id (Seated k) at in
+      let w = f.waits n refl in
       let drawn : all_drawn views ≡ all_drawn s.views =
-      (let p = sum_more drawn_in vs (Seated m) in let q = sum_set drawn_in s.views id (Seated k) (Seated l) at in omega (arith, p, q)) in
-      let has_more : (j : ℕ) → Has j (rest_of k.numbers) → Has j k.numbers =
-      (λ j has. subst (λ (z : List ℕ). Has j (rest_of z) → Has j z) (sym mine) (λ h. omega arith) has) in
-      let has_first : (j : ℕ) → Has j (first_of k.numbers) → Has j k.numbers =
-      (λ j has. subst (λ (z : List ℕ). Has j (first_of z) → Has j z) (sym mine) (λ h. omega arith) has) in
+      (let p = sum_more drawn_in vs (Seated a) in let q = sum_set drawn_in s.views id (Seated k) (Seated l) at in omega (arith, p, q)) in
+      let more : (j : ℕ) → Has j ns → Has j (n ∷ ns) = (λ j has. omega (arith, has)) in
+      let one : (j : ℕ) → Has j (n ∷ []) → Has j (n ∷ ns) = (λ j has. let t = split_times j n ns in omega (arith, has, t)) in
+      let low : (t : ℕ) → Has t (n ∷ ns) → t < terms.seats = (λ t has. inside s r id t (Seated k) at has) in
+      let next : (t : ℕ) → l.ticket ≡ Some t → (t ≡ n + 1) × (0 < m) × Has t ns =
+      (λ t is. let h = first_from (n + 1) m t is in (h.0, h.1, first_has ns t is)) in
       let fits_l : KnownInv c is_play terms r.journal (all_drawn s.views) l = record {
-        terms_are = f.terms_are;
+        terms_are = refl;
         begins = f.begins;
-        own = λ j has. f.own j (has_more j has);
+        own = λ j has. f.own j (more j has);
         past = All-nil _;
-        few = omega (arith, none_drawn);
-        waits = f.waits;
-        served = f.served;
-      } in
-      let fits_m : KnownInv c is_play terms r.journal (all_drawn s.views) m = record {
-        terms_are = f.terms_are;
-        begins = f.begins;
-        own = λ j has. f.own j (has_first j has);
-        past = All-nil _;
-        few = omega arith;
-        waits = λ t e. absurd (cc e);
+        few = le_refl (length ns);
+        waits = λ t is. let h = next t is in let at_t = h.0 in let some_left = h.1 in let below = low t (more t h.2) in let b = r.dealt in
+            let count = count_from (n + 1) m in (omega (arith, at_t, w.0), omega (arith, below, b), omega (arith, some_left, count));
         served = λ e. absurd (cc e);
+        first = λ t is below. (next t is).2;
       } in
-      let ticketless : (i t : ℕ) (p : Known C) → get_elem? views i ≡ some (Seated p) → p.ticket ≡ Some t →
-      (get_elem? s.views i ≡ some (Seated p)) = (λ i t p e has.
+      let fits_a : KnownInv c is_play terms r.journal (all_drawn s.views) a = record {
+        terms_are = refl;
+        begins = f.begins;
+        own = λ j has. f.own j (one j has);
+        past = All-nil _;
+        few = le_refl 1;
+        waits = λ t is. let same : n ≡ t = cc is in (omega (arith, same, w.0), omega (arith, same, w.1), omega arith);
+        served = λ e. absurd (cc e);
+        first = λ t is below. first_has (n ∷ []) t is;
+      } in
+      let each : (j : ℕ) (v : View C) → get_elem? views j ≡ some v → ViewInv c is_play terms r.journal (all_drawn s.views) v = (λ j v e.
+      ⊎_elim (λ (h : get_elem? vs j ≡ some v).
+      ⊎_elim (λ (b : (j ≡ id) × (Seated l ≡ v)). subst (ViewInv c is_play terms r.journal (all_drawn s.views)) b.1 fits_l)
+      (λ (b : (j ≢ id) × (get_elem? s.views j ≡ some v)). r.each j v b.1) (at_set s.views id j (Seated l) v h))
+      (λ (h : Seated a ≡ v). subst (ViewInv c is_play terms r.journal (all_drawn s.views)) h fits_a) (at_snoc vs (Seated a) v j e)) in
+      let numbers : (j : ℕ) → total (λ v. times j (numbers_in v)) views ≡ cond (nat_lt j terms.seats) 1 0 = (λ j.
+      (let g : View C → ℕ = λ v. times j (numbers_in v) in let p = sum_more g vs (Seated a) in
+      let q = sum_set g s.views id (Seated k) (Seated l) at in let b = split_times j n ns in omega (arith, p, q, b)) ∙ r.numbers j) in
+      let old : (i t : ℕ) (p : Known C) → get_elem? views i ≡ some (Seated p) → p.ticket ≡ Some t → terms.seats ≤ t →
+      get_elem? s.views i ≡ some (Seated p) = (λ i t p e has late.
       ⊎_elim (λ (h : get_elem? vs i ≡ some (Seated p)).
-      ⊎_elim (λ (a : (i ≡ id) × (Seated l ≡ Seated p)). absurd (cc (ap (λ (z : Known C). z.ticket) (is_seated l p a.1), has, no_ticket)))
-      (λ (a : (i ≢ id) × (get_elem? s.views i ≡ some (Seated p))). a.1) (at_set s.views id i (Seated l) (Seated p) h))
-      (λ (h : Seated m ≡ Seated p). absurd (cc (ap (λ (z : Known C). z.ticket) (is_seated m p h), has))) (at_snoc vs (Seated m) (Seated p) i e)) in
+      ⊎_elim (λ (b : (i ≡ id) × (Seated l ≡ Seated p)).
+      absurd (let x = next t (ap (λ (z : Known C). z.ticket) (is_seated l p b.1) ∙ has) in let below = low t (more t x.2) in omega (arith, below, late)))
+      (λ (b : (i ≢ id) × (get_elem? s.views i ≡ some (Seated p))). b.1) (at_set s.views id i (Seated l) (Seated p) h))
+      (λ (h : Seated a ≡ Seated p).
+      absurd (let x = first_has (n ∷ []) t (ap (λ (z : Known C). z.ticket) (is_seated a p h) ∙ has) in let below = low t (one t x) in
+      omega (arith, below, late))) (at_snoc vs (Seated a) (Seated p) i e)) in
       let outside : (i : ℕ) (p : Known C) → get_elem? views i ≡ some (Seated p) → (get_elem? s.views i ≡ some (Seated p)) ⊎ (p.in_turn ≡ false) = (λ i p e.
       ⊎_elim (λ (h : get_elem? vs i ≡ some (Seated p)).
-      ⊎_elim (λ (a : (i ≡ id) × (Seated l ≡ Seated p)). inr (ap (λ (z : Known C). z.in_turn) (sym (is_seated l p a.1)) ∙ out))
-      (λ (a : (i ≢ id) × (get_elem? s.views i ≡ some (Seated p))). inl a.1) (at_set s.views id i (Seated l) (Seated p) h))
-      (λ (h : Seated m ≡ Seated p). inr (ap (λ (z : Known C). z.in_turn) (sym (is_seated m p h)))) (at_snoc vs (Seated m) (Seated p) i e)) in
+      ⊎_elim (λ (b : (i ≡ id) × (Seated l ≡ Seated p)). inr (ap (λ (z : Known C). z.in_turn) (sym (is_seated l p b.1))))
+      (λ (b : (i ≢ id) × (get_elem? s.views i ≡ some (Seated p))). inl b.1) (at_set s.views id i (Seated l) (Seated p) h))
+      (λ (h : Seated a ≡ Seated p). inr (ap (λ (z : Known C). z.in_turn) (sym (is_seated a p h)))) (at_snoc vs (Seated a) (Seated p) i e)) in
       record {
         journal = r.journal;
         legal = r.legal;
@@ -90,28 +133,22 @@ module _ {C : Type 0} (c : Play) (is_play : List Event → C → Type 0) (terms 
         two = r.two;
         serving = r.serving;
         ticket = r.ticket ∙ ap (λ (z : ℕ). (length r.journal + z) % 2 ^ 64) (sym drawn);
-        numbers =
-            λ j. (let g : View C → ℕ = λ v. times j (numbers_in v) in let p = sum_more g vs (Seated m) in
-            let q = sum_set g s.views id (Seated k) (Seated l) at in
-            let a : times j (rest_of k.numbers) + times j (first_of k.numbers) ≡ times j k.numbers =
-            subst (λ (z : List ℕ). times j (rest_of z) + times j (first_of z) ≡ times j z) (sym mine) (split_times j n ns) in
-            omega (arith, p, q, a)) ∙ r.numbers j;
-        count = (let g : View C → ℕ = λ v. length (numbers_in v) in let p = sum_more g vs (Seated m) in let q = sum_set g s.views id (Seated k) (Seated l) at in
-            let a : length (rest_of k.numbers) + length (first_of k.numbers) ≡ length k.numbers =
-            subst (λ (z : List ℕ). length (rest_of z) + length (first_of z) ≡ length z) (sym mine) (omega arith) in omega (arith, p, q, a)) ∙ r.count;
+        numbers = numbers;
+        count = (let g : View C → ℕ = λ v. length (numbers_in v) in let p = sum_more g vs (Seated a) in let q = sum_set g s.views id (Seated k) (Seated l) at in
+            omega (arith, p, q)) ∙ r.count;
         few = r.few;
-        each = λ j v e. subst (λ (z : ℕ). ViewInv c is_play terms r.journal z v) (sym drawn)
-            (⊎_elim (λ (h : get_elem? vs j ≡ some v).
-            ⊎_elim (λ (a : (j ≡ id) × (Seated l ≡ v)). subst (ViewInv c is_play terms r.journal (all_drawn s.views)) a.1 fits_l)
-            (λ (a : (j ≢ id) × (get_elem? s.views j ≡ some v)). r.each j v a.1) (at_set s.views id j (Seated l) v h))
-            (λ (h : Seated m ≡ v). subst (ViewInv c is_play terms r.journal (all_drawn s.views)) h fits_m) (at_snoc vs (Seated m) v j e));
-        apart = λ i j t p q at_i at_j a b. r.apart i j t p q (ticketless i t p at_i a) (ticketless j t q at_j b) a b;
+        dealt = (let b = r.dealt in omega (arith, b, drawn));
+        each = λ j v e. subst (λ (z : ℕ). ViewInv c is_play terms r.journal z v) (sym drawn) (each j v e);
+        apart = λ i j t p q at_i at_j x y. either_way (nat_lt t terms.seats) (t < terms.seats) (terms.seats ≤ t) (i ≡ j)
+            (λ is. grind (arith, nat_tests)) (λ is. grind (arith, nat_tests))
+            (λ below. first_apart views numbers i j t p q at_i at_j ((each i (Seated p) at_i).first t x below) ((each j (Seated q) at_j).first t y below))
+            (λ late. r.apart i j t p q (old i t p at_i x late) (old j t q at_j y late) x y);
         slot =
             ⊎_elim (λ (h : IsHome c is_play terms r.journal s).
             inl (h.0, λ i p e. ⊎_elim (λ (o : get_elem? s.views i ≡ some (Seated p)). h.1 i p o) (λ (o : p.in_turn ≡ false). o) (outside i p e)))
-            (λ (a : IsAway c is_play terms s). let i = a.1.0 in let p = a.1.1 in
-            let other : i ≢ id = (λ e. cc (some-injective (Seated p) (Seated k) (sym a.1.2 ∙ (ap (get_elem? s.views) e ∙ at)), a.1.3, out)) in
-            inr (a.0, (i, p, at_longer vs (Seated m ∷ []) i (Seated p) (set_else s.views id i (Seated l) other ∙ a.1.2), a.1.3))) r.slot;
+            (λ (b : IsAway c is_play terms s). let i = b.1.0 in let p = b.1.1 in
+            let other : i ≢ id = (λ e. cc (some-injective (Seated p) (Seated k) (sym b.1.2 ∙ (ap (get_elem? s.views) e ∙ at)), b.1.3)) in
+            inr (b.0, (i, p, at_longer vs (Seated a ∷ []) i (Seated p) (set_else s.views id i (Seated l) other ∙ b.1.2), b.1.3))) r.slot;
       }
 
 module _ {C : Type 0} (c : Play) (is_play : List Event → C → Type 0) (terms : Terms C) where
@@ -131,6 +168,7 @@ module _ {C : Type 0} (c : Play) (is_play : List Event → C → Type 0) (terms 
         few = omega arith;
         waits = λ t e. absurd (cc e);
         served = λ e. absurd (cc e);
+        first = λ t e below. absurd (cc e);
       } in
       let there : (i : ℕ) (p : Known C) → get_elem? views i ≡ some (Seated p) → (get_elem? s.views i ≡ some (Seated p)) ⊎ (m ≡ p) = (λ i p e.
       ⊎_elim (λ (h : get_elem? s.views i ≡ some (Seated p)). inl h) (λ (h : Seated m ≡ Seated p). inr (is_seated m p h))
@@ -147,6 +185,7 @@ module _ {C : Type 0} (c : Play) (is_play : List Event → C → Type 0) (terms 
         numbers = λ j. (let g : View C → ℕ = λ v. times j (numbers_in v) in let p = sum_more g s.views (Seated m) in omega (arith, p)) ∙ r.numbers j;
         count = (let g : View C → ℕ = λ v. length (numbers_in v) in let p = sum_more g s.views (Seated m) in omega (arith, p)) ∙ r.count;
         few = r.few;
+        dealt = (let b = r.dealt in omega (arith, b, drawn));
         each = λ j v e. subst (λ (z : ℕ). ViewInv c is_play terms r.journal z v) (sym drawn)
             (⊎_elim (λ (h : get_elem? s.views j ≡ some v). r.each j v h)
             (λ (h : Seated m ≡ v). subst (ViewInv c is_play terms r.journal (all_drawn s.views)) h fits_m) (at_snoc s.views (Seated m) v j e));
@@ -211,6 +250,7 @@ module _ {C : Type 0} (c : Play) (is_play : List Event → C → Type 0) (terms 
         few = (let p = f.few in let q = g.few in let n = length-append k.numbers l.numbers in omega (arith, p, q, n));
         waits = λ t has. let w = f.waits t has in (w.0, w.1, omega (arith, w.2));
         served = λ e. absurd (cc (e, out));
+        first = λ t has below. has_left t (f.first t has below);
       } in
       let is_there : (i : ℕ) (p : Known C) → get_elem? views i ≡ some (Seated p) →
       ((i ≡ id) × (m ≡ p)) ⊎ ((i ≢ id) × (get_elem? s.views i ≡ some (Seated p))) = (λ i p e.
@@ -237,6 +277,7 @@ module _ {C : Type 0} (c : Play) (is_play : List Event → C → Type 0) (terms 
             (let h : View C → ℕ = λ v. length (numbers_in v) in let p = sum_set h vs other (Seated l) Spent there in
             let q = sum_set h s.views id (Seated k) (Seated m) at in let n = length-append k.numbers l.numbers in omega (arith, p, q, n)) ∙ r.count;
         few = r.few;
+        dealt = (let b = r.dealt in omega (arith, b, drawn));
         each = λ j v e. subst (λ (z : ℕ). ViewInv c is_play terms r.journal z v) (sym drawn)
             (⊎_elim (λ (a : (j ≡ other) × (Spent ≡ v)). subst (ViewInv c is_play terms r.journal (all_drawn s.views)) a.1 tt)
             (λ (a : (j ≢ other) × (get_elem? vs j ≡ some v)).

@@ -34,6 +34,7 @@ noting history space runs board s t h me table is turns ceiling made ticket ahea
       made_is = made ∙ (r.made_is ∙ ap (λ (n : ℕ). made_by n h.seat.known.seen) (sym is));
       within = (let w = r.within in omega (arith, w, made, turns));
       ticket_is = subst (λ (z : Option ℕ). HasTicket z h.seat.known) (sym ticket) r.ticket_is;
+      first = λ t has below. is ∙ r.first t has below;
     } table is ahead
 
 module _ {C L M : Type 0} (b : Behaviour M) (opening : C → M) (history : C → List Event) (hart_count space : C → ℕ) where
@@ -66,6 +67,7 @@ module _ {C L M : Type 0} (b : Behaviour M) (opening : C → M) (history : C →
           made_is = made ∙ (r.made_is ∙ (ap (λ (z : List Entry). length (events_of z)) (sym own) ∙ ap (λ (n : ℕ). made_by n now) (sym is)));
           within = (let w = r.within in omega (arith, w, made, turns));
           ticket_is = subst (λ (z : Option ℕ). HasTicket z (with_seen (met k l) now false)) (sym ticket) (still s.ticket k l now o.drawn r.ticket_is);
+          first = λ t has below. is ∙ r.first t has below;
         } table is ahead,
         sees_at b opening history hart_count space board s t s.number k now h.seat.terms_are old new mine.begins own g.legal,
         subst (λ (z : List Entry × List Entry). IsPrefix z.0 z.1) (λ i. (sym noted i, sym new i)) told.begins,

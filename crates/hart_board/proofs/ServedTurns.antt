@@ -79,6 +79,7 @@ module _ {C L : Type 0} (m : Ghosts C L) where
         (omega (arith, len, under, is)) own given
         (ap (λ (e : Entry). e.last) (sym entry_is)
         ∙ ap (λ (z : List Event). last_reply (play_of b opening history hart_count k.terms).reply (events_of k.seen) z) (ap (λ (e : Entry). e.events) entry_is))
+        h.first
 
     pub passes_on : IsTurn (play_of b opening history hart_count k.terms) k.terms.turns k.terms.ceiling k.seen
         (turn_of (play_of b opening history hart_count) history k s.number new)
@@ -110,6 +111,7 @@ module _ {C L : Type 0} (m : Ghosts C L) where
           all ∙ ap (λ (n : ℕ). made_by n (k.seen ++ made_entry s.number event result ∷ [])) (sym number));
       within = (let w = made_below in omega (arith, w, made, turns));
       ticket_is = subst (λ (z : Option ℕ). HasTicket z (with_turn k (made_entry s.number event result))) (sym none) (refl, (let o = h.one in omega (arith, o)));
+      first = λ t has. absurd (cc has);
     }
 
   -- all that is known after the turn, by the core's answer

@@ -55,6 +55,7 @@ module _ {C : Type 0} (c : Play) (is_play : List Event → C → Type 0) (terms 
     few = f.few;
     waits = λ t is. let w = f.waits t is in (w.0, omega (arith, w.1, le), w.2);
     served = f.served;
+    first = f.first;
   }
 
   -- one seat knows something else, with the same journal
@@ -78,6 +79,7 @@ module _ {C : Type 0} (c : Play) (is_play : List Event → C → Type 0) (terms 
     count = let e = sum_set (λ (v : View C). length (numbers_in v)) s.views id (Seated k) (Seated l) at in let q = ap length same in let b = r.count in
         omega (arith, e, q) ∙ b;
     few = r.few;
+    dealt = (let b = r.dealt in omega (arith, b, more));
     each = λ j v e. ⊎_elim (λ (t : (j ≡ id) × (Seated l ≡ v)). subst (ViewInv c is_play terms r.journal (all_drawn (set s.views id (Seated l)))) t.1 fits)
         (λ (t : (j ≢ id) × (get_elem? s.views j ≡ some v)).
         fits_more r.journal (all_drawn s.views) (all_drawn (set s.views id (Seated l))) v more (r.each j v t.1)) (at_set s.views id j (Seated l) v e);
@@ -146,6 +148,7 @@ module _ {C : Type 0} (c : Play) (is_play : List Event → C → Type 0) (terms 
               few = omega (arith, some_left);
               waits = λ u e. let same : t ≡ u = cc e in (omega (arith, same), omega (arith, same, one), omega arith);
               served = λ e. absurd (cc (e, out));
+              first = λ u e below. absurd (let same : t ≡ u = cc e in let b = r.dealt in omega (arith, same, below, b));
             }
             (λ j u m other there mine theirs. let w = (r.each j (Seated m) there).waits u theirs in let same : t ≡ u = cc mine in omega (arith, w.1, same))
             (slot_stays s r.journal (set s.words 1 ((get_or s.words 1 0 + 1) % 2 ^ 64)) id k l at' out out r.slot),
@@ -155,6 +158,8 @@ module _ {C : Type 0} (c : Play) (is_play : List Event → C → Type 0) (terms 
           r.ticket,
           (let p = prefix_length k.seen r.journal f.begins in let q = ap (λ (z : Known C). length z.seen) (is_seated k k' (sym is ∙ is')) in
               omega (arith, p, q)),
+          (let b = r.dealt in let p = ap (λ (z : Terms C). z.seats) f.terms_are in
+              let q = ap (λ (z : Known C). z.terms.seats) (is_seated k k' (sym is ∙ is')) in omega (arith, b, p, q)),
         ),
       )
 
@@ -184,6 +189,7 @@ module _ {C : Type 0} (c : Play) (is_play : List Event → C → Type 0) (terms 
     few = f.few;
     waits = f.waits;
     served = λ e. (mine e, refl);
+    first = f.first;
   }
 
   -- the core is at home where a seat that isn't in its turn has the next ticket
@@ -356,6 +362,7 @@ module _ {C : Type 0} (c : Terms C → Play) (is_play : Terms C → List Event �
         let not : t ≢ length journal = (λ q. alone l refl (has ∙ ap Some q)) in
         (omega (arith, w.0, not, more), omega (arith, w.1, more, less), w.2);
     served = λ q. absurd (alone l refl (f.served q).0);
+    first = f.first;
   }
 
   apart_of : (s : State C (View C)) (r : RuleAt s) (id j n m : ℕ) (k : Known C) (v : View C) → j ≢ id → get_elem? s.views id ≡ some (Seated k) →
@@ -426,6 +433,7 @@ module _ {C : Type 0} (c : Terms C → Play) (is_play : Terms C → List Event �
             omega (arith, q) ∙ b;
         count = let q = sum_set (λ (v : View C). length (numbers_in v)) s.views id (Seated k) (Seated l) at' in let b = r.count in omega (arith, q) ∙ b;
         few = r.few;
+        dealt = (let b = r.dealt in omega (arith, b, sum));
         each =
             λ j v q. ⊎_elim (λ (t : (j ≡ id) × (Seated l ≡ v)).
             subst (ViewInv (c terms) (is_play terms) terms (r.journal ++ e ∷ []) (all_drawn (set s.views id (Seated l)))) t.1 record {
@@ -436,6 +444,7 @@ module _ {C : Type 0} (c : Terms C → Play) (is_play : Terms C → List Event �
               few = (let few = f.few in omega (arith, few));
               waits = λ u has. absurd (cc has);
               served = λ q. absurd (cc q);
+              first = λ u has below. absurd (cc has);
             })
             (λ (t : (j ≢ id) × (get_elem? s.views j ≡ some v)).
             fits_after r.journal e (all_drawn s.views) (all_drawn (set s.views id (Seated l))) v one (others j v t.0 t.1)

@@ -79,6 +79,7 @@ module _ {C L : Type 0} (c : Terms C → Play) (is_play : Terms C → List Event
         ∙ ap (λ (n : ℕ). made_by n seen) (sym number)));
     within = (let w = h.within in omega (arith, w, made, turns));
     ticket_is = subst (λ (z : Option ℕ). HasTicket z (with_seen l seen false)) (sym ticket) (still s.ticket h.ticket_is);
+    first = λ tk has below. number ∙ h.first tk has below;
   }
     where
       still : (o : Option ℕ) → HasTicket o l → HasTicket o (with_seen l seen false)
@@ -88,8 +89,8 @@ module _ {C L : Type 0} (c : Terms C → Play) (is_play : Terms C → List Event
   -- the seat that is served
   pub turns_in : (s t : Seat C L) (k l : Known C) (tk : ℕ) (seen : List Entry) (core : C) → Represents s l → l ≡ ticketed k tk → GoesOn c l seen →
       t.place.me ≡ (Seated (with_seen l seen true), (0, core) ∷ s.place.me.1) → is_play l.terms (events_of seen) core
-      → t.number ≡ s.number → t.turns ≡ s.turns → t.ceiling ≡ s.ceiling → t.made ≡ s.made → IsInTurn c is_play t (with_seen l seen true) core
-  turns_in s t k l tk seen core h is g me plays number turns ceiling made = record {
+      → length seen ≡ tk → t.number ≡ s.number → t.turns ≡ s.turns → t.ceiling ≡ s.ceiling → t.made ≡ s.made → IsInTurn c is_play t (with_seen l seen true) core
+  turns_in s t k l tk seen core h is g me plays now number turns ceiling made = record {
     me = me ∙ ap (λ (cs : List (ℕ × C)). (Seated (with_seen l seen true), (0, core) ∷ cs)) (ap (λ (m : Me C (View C)). m.1) h.me);
     turning = refl;
     one = ap (λ (z : Known C). z.drawn) is;
@@ -100,6 +101,7 @@ module _ {C L : Type 0} (c : Terms C → Play) (is_play : Terms C → List Event
         made ∙ (h.made_is ∙ (ap (λ (z : List Entry). length (events_of z)) (sym (g.own s.number (has_own s.number l.numbers h.numbers)))
         ∙ ap (λ (n : ℕ). made_by n seen) (sym number)));
     within = (let w = h.within in omega (arith, w, made, turns));
+    first = λ below. number ∙ (h.first tk (ap (λ (z : Known C). z.ticket) is) (omega (arith, below, now)) ∙ sym now);
     legal = g.legal;
     plays = plays;
   }

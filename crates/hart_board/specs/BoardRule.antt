@@ -1,7 +1,7 @@
 -- The rule of a board, and what each step at it tells.
 -- Word 0 is how many turns were taken, word 1 how many tickets were drawn. The slot holds the core.
 use Rattle.std.specs.Prelude.{◌≡◌, ◌≢◌, ◌⊎◌, ℕ, zero, suc, ◌+◌, ◌-◌, ◌%◌, ◌^◌, ◌<◌, ◌≤◌, List, [], ◌∷◌, ◌++◌, length}
-use Rattle.std.specs.Prelude.{drop, Bool, true, false, All, ◌==◌, Some, None, slice_index, nat_lt, if◌then◌else◌}
+use Rattle.std.specs.Prelude.{drop, Bool, true, false, All, ◌==◌, Option, Some, None, slice_index, nat_lt, if◌then◌else◌}
 use mathlib.Core.Option.{some, none}
 use mathlib.Core.List.{IsPrefix}
 use lib.ListN.{get_elem?}
@@ -44,6 +44,11 @@ abbrev pub first_of : List ℕ → List ℕ
 first_of [] = []
 first_of (n ∷ ns) = n ∷ []
 
+-- the ticket of one that has these numbers and made no turn: at the start each seat has the ticket of its number
+abbrev pub first_ticket : List ℕ → Option ℕ
+first_ticket [] = None
+first_ticket (n ∷ ns) = Some n
+
 module _ {C : Type 0} where
   abbrev pub drawn_in : View C → ℕ
   drawn_in Spent = 0
@@ -57,22 +62,23 @@ module _ {C : Type 0} where
   abbrev pub all_drawn : List (View C) → ℕ
   all_drawn views = total drawn_in views
 
-  -- a seat with these numbers that has seen no turn
+  -- a seat with these numbers, and the tickets of these numbers, that has seen no turn
   abbrev pub dealt : Terms C → (numbers : List ℕ) → Known C
-  dealt terms ns = record { terms = terms; seen = []; past = []; numbers = ns; drawn = 0; ticket = None; in_turn = false }
+  dealt terms ns = record { terms = terms; seen = []; past = []; numbers = ns; drawn = length ns; ticket = first_ticket ns; in_turn = false }
 
   -- one that has all numbers
   abbrev pub newcomer : Terms C → Known C
   newcomer terms = dealt terms (numbers_from 0 terms.seats)
 
-  -- one that has seen as much
+  -- one that has seen as much, with the tickets of these numbers
   abbrev pub beside : Known C → (numbers : List ℕ) → Known C
-  beside k ns = record { terms = k.terms; seen = k.seen; past = []; numbers = ns; drawn = 0; ticket = None; in_turn = false }
+  beside k ns = record { terms = k.terms; seen = k.seen; past = []; numbers = ns; drawn = length ns; ticket = first_ticket ns; in_turn = false }
 
-  -- the first of its numbers is given away
+  -- the first of its numbers is given away, with its ticket
   abbrev pub without_first : View C → View C
   without_first Spent = Spent
-  without_first (Seated k) = Seated (record k { numbers = rest_of k.numbers; past = [] })
+  without_first (Seated k) =
+      Seated (record k { numbers = rest_of k.numbers; past = []; drawn = length (rest_of k.numbers); ticket = first_ticket (rest_of k.numbers) })
 
   abbrev pub first_alone : View C → View C
   first_alone Spent = Spent
@@ -103,6 +109,8 @@ module _ {C : Type 0} (c : Play) (is_play : List Event → C → Type 0) (terms 
     pub few : k.drawn ≤ length k.numbers
     pub waits : (t : ℕ) → k.ticket ≡ Some t → (length journal ≤ t) × (t < length journal + drawn) × (0 < k.drawn)
     pub served : k.in_turn ≡ true → (k.ticket ≡ Some (length journal)) × (k.seen ≡ journal)
+    -- a ticket of the first turns is one's own number
+    pub first : (t : ℕ) → k.ticket ≡ Some t → t < terms.seats → Has t k.numbers
 
   abbrev pub ViewInv : (journal : List Entry) → (drawn : ℕ) → View C → Type 0
   ViewInv journal drawn Spent = Unit {0}
@@ -128,6 +136,8 @@ module _ {C : Type 0} (c : Play) (is_play : List Event → C → Type 0) (terms 
     pub numbers : (n : ℕ) → total (λ v. times n (numbers_in v)) s.views ≡ (if nat_lt n terms.seats then 1 else 0)
     pub count : total (λ v. length (numbers_in v)) s.views ≡ terms.seats
     pub few : terms.seats < 2 ^ 32
+    -- the tickets of the first turns were drawn
+    pub dealt : terms.seats ≤ length journal + all_drawn s.views
     pub each : (i : ℕ) (v : View C) → get_elem? s.views i ≡ some v → ViewInv journal (all_drawn s.views) v
     pub apart : (i j t : ℕ) (k l : Known C) → get_elem? s.views i ≡ some (Seated k) → get_elem? s.views j ≡ some (Seated l) → k.ticket ≡ Some t →
         l.ticket ≡ Some t → i ≡ j
@@ -140,9 +150,10 @@ module _ {C : Type 0} where
   abbrev pub with_ticket : Known C → ℕ → Known C
   with_ticket k t = record k { drawn = k.drawn + 1; ticket = Some t }
 
-  -- a ticket was drawn, of which the word found is what it is modulo 2 ^ 64
+  -- a ticket was drawn that is none of the first turns', of which the word found is what it is modulo 2 ^ 64
   abbrev pub drew : Step C → Me C (View C) → ℕ → Me C (View C) → Type 0
   drew st m found m' = (k : Known C) → m.0 ≡ Seated k → (t : ℕ) × (m' ≡ (Seated (with_ticket k t), m.1)) × (found ≡ t % 2 ^ 64) × (length k.seen ≤ t)
+      × (k.terms.seats ≤ t)
 
   -- the seat has seen these turns
   abbrev pub with_seen : Known C → List Entry → (in_turn : Bool) → Known C
@@ -192,7 +203,7 @@ module _ {C M : Type 0} (opening : C → M) (history : C → List Event) (hart_c
 
 module _ {C M : Type 0} (b : Behaviour M) (opening : C → M) (history : C → List Event) (hart_count : C → ℕ) where
   abbrev pub play_of : Terms C → Play
-  play_of terms = play_from b (opening terms.opening.value) (history terms.opening.value) (hart_count terms.opening.value)
+  play_of terms = play_from b (opening terms.opening.value) (history terms.opening.value) (hart_count terms.opening.value) terms.seats
 
 -- ---- Seats that meet
 

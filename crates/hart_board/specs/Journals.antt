@@ -9,6 +9,8 @@ use Rattle.hart_board.specs.declared.journal.Entry.{Entry}
 -- what a core does from here on: its behaviour, played on from the events that it has had
 pub record Play : Type 0 where
   pub harts : ℕ
+  -- how many seats take turns
+  pub seats : ℕ
   -- how many events it has had
   pub before : ℕ
   -- what it replies to an event after these
@@ -16,9 +18,10 @@ pub record Play : Type 0 where
   -- after these events the hart has ended, or its recovery is done
   pub is_stopped : List Event → (hart : ℕ) → Bool
 
-abbrev pub play_from : {M : Type 0} → Behaviour M → (opening : M) → (history : List Event) → (harts : ℕ) → Play
-play_from b m history harts = record {
+abbrev pub play_from : {M : Type 0} → Behaviour M → (opening : M) → (history : List Event) → (harts seats : ℕ) → Play
+play_from b m history harts seats = record {
   harts = harts;
+  seats = seats;
   before = length history;
   reply = λ events event. b.reply (played b m (history ++ events)) event;
   is_stopped = λ events hart. b.is_stopped (played b m (history ++ events)) hart;
@@ -60,6 +63,8 @@ module _ (p : Play) (turns ceiling : ℕ) where
 
   -- the turn may be taken after these
   pub record IsTurn (before : List Entry) (e : Entry) : Type 0 where
+    -- the first turns are those of the seats in order, so that none takes its second before each has taken its first
+    pub first : length before < p.seats → e.seat ≡ length before
     pub own : All (IsOwn p.harts e.seat) e.events
     pub over : (e.events ≡ []) ↔ IsOver before e.seat []
     -- each event finds the seat with something to do

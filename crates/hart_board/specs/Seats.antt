@@ -74,6 +74,8 @@ pub record Represents {C L : Type 0} (s : Seat C L) (k : Known C) : Type 0 where
   pub made_is : s.made ≡ made_by s.number k.seen
   pub within : s.made ≤ s.turns
   pub ticket_is : HasTicket s.ticket k
+  -- a ticket of the first turns is its number
+  pub first : (t : ℕ) → k.ticket ≡ Some t → t < k.terms.seats → s.number ≡ t
 
 -- the seat is in its turn, with this core in hand
 pub record IsInTurn {C L : Type 0} (c : Terms C → Play) (is_play : Terms C → List Event → C → Type 0) (s : Seat C L) (k : Known C) (core : C) : Type 0 where
@@ -85,6 +87,8 @@ pub record IsInTurn {C L : Type 0} (c : Terms C → Play) (is_play : Terms C →
   pub ceiling_is : s.ceiling ≡ k.terms.ceiling
   pub made_is : s.made ≡ made_by s.number k.seen
   pub within : s.made ≤ s.turns
+  -- one of the first turns is that of its number
+  pub first : length k.seen < k.terms.seats → s.number ≡ length k.seen
   pub legal : IsLegal (c k.terms) k.terms.turns k.terms.ceiling k.seen
   pub plays : is_play k.terms (events_of k.seen) core
 
@@ -128,7 +132,7 @@ pub record Rules : Type 0 where
 
 abbrev pub rules_of : {C L M : Type 0} → Behaviour M → (C → M) → (C → List Event) → (C → ℕ) → Board C L → Rules
 rules_of b opening history hart_count board = record {
-  play = play_from b (opening (opening_core board)) (history (opening_core board)) (hart_count (opening_core board));
+  play = play_from b (opening (opening_core board)) (history (opening_core board)) (hart_count (opening_core board)) (seats_of board);
   turns = turns_of board;
   ceiling = ceiling_of board;
 }

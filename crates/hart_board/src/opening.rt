@@ -1,5 +1,5 @@
 //! Boards at their start.
-ghost use Rattle.std.specs.Prelude.{◌≡◌, ◌⊎◌, ◌+◌, ◌<◌, ◌≤◌, [], ◌∷◌, ℕ, List, All, None, length, slice_index_or, IfOk};
+ghost use Rattle.std.specs.Prelude.{◌≡◌, ◌⊎◌, ◌+◌, ◌<◌, ◌≤◌, [], ◌∷◌, ℕ, List, All, None, Some, length, slice_index_or, IfOk};
 ghost use Rattle.std.specs.Vec.{vec_capacity};
 ghost use Rattle.hart_board.specs.declared.views.View.TheVariants.{Seated};
 ghost use Rattle.hart_board.specs.BoardRule.{newcomer, numbers_from, dealt};
@@ -19,6 +19,8 @@ use std::snapshot::Snapshot;
 
 impl<C: Core> Board<C> {
     /// A board with its seats, in the order of their numbers. Each seat makes at most so many events, while the core has fewer than the ceiling.
+    /// The first tickets are drawn in that order: no seat takes its second turn before each has taken its first. Where one of them takes none,
+    /// the others wait for it.
     pub fn new(
         alloc: Global,
         core: C,
@@ -67,7 +69,7 @@ impl<C: Core> Board<C> {
         let counts = Vec::with_capacity(alloc, seats as usize)?;
         let mut slots = Vec::with_capacity(alloc, 1)?;
         slots.push_reserved(core);
-        match Table::new(alloc, &[0, 0], slots, &terms) {
+        match Table::new(alloc, &[0, u64::from(seats)], slots, &terms) {
             Ok((table, place)) => Ok((Board { table, counts }, place)),
             Err(Refused { slots: _ }) => Err(OutOfMemory),
         }
@@ -103,19 +105,19 @@ impl<C: Core> Board<C> {
         }
     }
 
-    /// Gives the first number of the place to a new one.
+    /// Gives the first number of the place to a new one, with its ticket.
     fn deal_first(&self, place: &mut Place<C>) -> Place<C>
         requires table { place.old.table_id ≡ self.now.table.shared.table_id }
-        requires me { (n : ℕ) × (ns : List ℕ) × (place.old.me ≡ (Seated (dealt self.now.table.shared.key (n ∷ ns)), [])) }
+        requires me { (n m : ℕ) × (place.old.me ≡ (Seated (dealt self.now.table.shared.key (n ∷ numbers_from (n + 1) m)), [])) }
         ensures table { (place.new.table_id ≡ self.now.table.shared.table_id) × (result.table_id ≡ self.now.table.shared.table_id) }
-        ensures dealt { (n : ℕ) (ns : List ℕ) → place.old.me ≡ (Seated (dealt self.now.table.shared.key (n ∷ ns)), [])
-            → (place.new.me ≡ (Seated (dealt self.now.table.shared.key ns), [])) × (result.me ≡ (Seated (dealt self.now.table.shared.key (n ∷ [])), [])) }
+        ensures dealt { (n m : ℕ) → place.old.me ≡ (Seated (dealt self.now.table.shared.key (n ∷ numbers_from (n + 1) m)), [])
+            → (place.new.me ≡ (Seated (dealt self.now.table.shared.key (numbers_from (n + 1) m)), [])) × (result.me ≡ (Seated (dealt self.now.table.shared.key (n ∷ [])), [])) }
     {
         self.table.shared.split_seat::<DealsFirst>(place)
     }
 }
 
-/// A seat that has made nothing yet.
+/// A seat that has made nothing yet, with the ticket of its first turn, which is its number.
 fn seated<C, L>(
     place: Place<C>,
     number: u32,
@@ -123,7 +125,7 @@ fn seated<C, L>(
     ceiling: u64,
     local: Option<Ahead<L>>,
 ) -> Seat<C, L>
-    ensures { result ≡ record { place = place; number = number; turns = turns; ceiling = ceiling; made = 0; ticket = None; local = local } }
+    ensures { result ≡ record { place = place; number = number; turns = turns; ceiling = ceiling; made = 0; ticket = Some number; local = local } }
 {
     Seat {
         place,
@@ -131,7 +133,7 @@ fn seated<C, L>(
         turns,
         ceiling,
         made: 0,
-        ticket: None,
+        ticket: Some(u64::from(number)),
         local,
     }
 }

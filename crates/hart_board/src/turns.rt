@@ -100,7 +100,7 @@ impl<C: Core> Board<C> {
         }
     }
 
-    /// A turn of this event where the seat's ticket is the next one.
+    /// A turn of this event where the seat's ticket is the next one. It runs ahead with its ticket drawn, while others take their turns.
     fn attempt(&self, seat: &mut Seat<C, C::Local>, event: Event, most: u64) -> TryTurn
         requires seat { IsSeatOf C.history C.space (RunsIn C.opening C.hart_count C.is_local C.ahead_by) self.now seat.old }
         requires own { IsOwn (C.hart_count (opening_core self.now)) (number seat.old) event }
@@ -110,21 +110,9 @@ impl<C: Core> Board<C> {
             × (number seat.new ≡ number seat.old) }
         ensures turn { TryTells (rules_of C.behaviour C.opening C.history C.hart_count self.now) event most result seat.old seat.new }
     {
-        run_ahead::<C>(&mut seat.local, most.min(seat.turns - seat.made));
-        self.try_serve(seat, event, most)
-    }
-
-    /// A turn of this event where the seat's ticket is the next one, with what was run ahead.
-    fn try_serve(&self, seat: &mut Seat<C, C::Local>, event: Event, most: u64) -> TryTurn
-        requires seat { IsSeatOf C.history C.space (RunsIn C.opening C.hart_count C.is_local C.ahead_by) self.now seat.old }
-        requires own { IsOwn (C.hart_count (opening_core self.now)) (number seat.old) event }
-        requires valid { IsValid (C.hart_count (opening_core self.now)) (C.evictable (opening_core self.now)) event }
-        requires some { 0 < most }
-        ensures seat { IsSeatOf C.history C.space (RunsIn C.opening C.hart_count C.is_local C.ahead_by) self.now seat.new
-            × (number seat.new ≡ number seat.old) }
-        ensures turn { TryTells (rules_of C.behaviour C.opening C.history C.hart_count self.now) event most result seat.old seat.new }
-    {
+        let limit = most.min(seat.turns - seat.made);
         let ticket = self.ticket_of(seat);
+        run_ahead::<C>(&mut seat.local, limit);
         let serving = self.look(&mut seat.place);
         if serving != ticket {
             return TryTurn::Later { ticket, serving };

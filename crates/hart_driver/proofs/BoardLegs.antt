@@ -56,7 +56,7 @@ module _ {C L V : Type 0} (members : Ghosts C L) (coming : V → ℕ → ℕ × 
 
   pub own : AreOwn harts journal
   own = All-both (λ (e : Entry). e.seat ≤ harts) (λ (e : Entry). All (IsOwn harts e.seat) e.events) journal low
-      (each_own (play_from b (opening core) (history core) harts) turns moment journal legal)
+      (each_own (play_from b (opening core) (history core) harts seats) turns moment journal legal)
 
   pub made_is : (w : ℕ) → w ≤ harts → made leg w (events_of journal) ≡ made_by w journal
   made_is w few = count_turns harts w journal few own
@@ -78,7 +78,7 @@ module _ {C L V : Type 0} (members : Ghosts C L) (coming : V → ℕ → ℕ × 
     abbrev at : EventIn journal before event
     at = event_in journal before after event q
 
-    abbrev turn : IsTurnOf (play_from b (opening core) (history core) harts) turns moment at.turns at.turn
+    abbrev turn : IsTurnOf (play_from b (opening core) (history core) harts seats) turns moment at.turns at.turn
     turn = legal at.turns at.turn at.later at.journal_is
 
     abbrev seat : ℕ

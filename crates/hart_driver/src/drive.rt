@@ -9,6 +9,7 @@ ghost use Rattle.hart_driver.specs.links.BoardRuns.{HasRunBoard};
 ghost use Rattle.hart_driver.specs.links.UnderWay.{CanDrive};
 
 use crate::finishing::finish;
+use crate::pace::Pace;
 use crate::running::{Part, run_all, run_harts};
 use crate::start::Start;
 use crate::stop::Stop;
@@ -33,6 +34,7 @@ pub struct Driven<C, V> {
 
 /// A leg of this core: each hart makes at most so many events, in a thread of its own, until it has ended, or the core has had as
 /// many events as its moment. Evictions are made in one more thread, as many at most. Before each turn the gate is passed.
+/// Where one of these threads can't be made none takes a turn, and the caller makes rounds over the workers, an event of each.
 pub fn drive<
     R: Threads + Wait + Sync,
     C: Core + Send + Drop,
@@ -68,7 +70,8 @@ pub fn drive<
     let mut stops = Vec::with_capacity(alloc, workers as usize)?;
     let parts = Vec::with_capacity(alloc, 2)?;
     let (board, seats) = Board::new(alloc, core, workers, turns, moment)?;
-    let (mut core, mut counts, mut evict) = run(rt, board, seats, evict, gate, parts);
+    let pace = Pace::of(rt, harts, workers);
+    let (mut core, mut counts, mut evict) = run(rt, board, seats, evict, gate, &pace, parts);
     finish(
         &start,
         &mut core,
@@ -98,6 +101,7 @@ fn run<R: Threads + Wait + Sync, C: Core + Send, V: Evictions + Send + Drop, G: 
     mut seats: Vec<Seat<C, C::Local>>,
     evict: Option<V>,
     gate: &G,
+    pace: &Pace,
     parts: Vec<Part<C, C::Local, V>>,
 ) -> (C, Vec<u64>, Option<V>)
     requires room { (parts.items ≡ []) × (2 ≤ vec_capacity parts) }
@@ -110,14 +114,14 @@ fn run<R: Threads + Wait + Sync, C: Core + Send, V: Evictions + Send + Drop, G: 
         evict result.0 result.1.items result.2 }
 {
     let Some(evict) = evict else {
-        run_harts(rt, &board, gate, seats.as_mut_slice());
+        run_harts(rt, &board, gate, pace, seats.as_mut_slice());
         let (core, counts) = board.into_core(seats);
         return (core, counts, None);
     };
     let Some(last) = seats.pop() else {
         unreachable!()
     };
-    let (mut seats, last, evict) = run_all(rt, &board, gate, seats, last, evict, parts);
+    let (mut seats, last, evict) = run_all(rt, &board, gate, pace, seats, last, evict, parts);
     seats.push_reserved(last);
     let (core, counts) = board.into_core(seats);
     (core, counts, Some(evict))

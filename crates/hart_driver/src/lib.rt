@@ -4,6 +4,7 @@
 
 pub mod drive;
 pub mod finishing;
+mod pace;
 pub mod report;
 pub mod running;
 pub mod start;

@@ -6,6 +6,7 @@ ghost use Rattle.hart_board.specs.Seats.{IsSeatOf, number, numbers_of, opening_c
 ghost use Rattle.hart_driver.specs.declared.running.Part.TheVariants.{Evictor, Harts};
 ghost use Rattle.hart_driver.specs.links.Parts.{CanRun, EndsIn, EvictsFrom, HasRun, HaveRun, IsEvictor, IsHartSeat, IsHarts};
 
+use crate::pace::Pace;
 use hart_board::board::Board;
 use hart_board::seat::{Seat, Turn};
 use ido_outside::Gate;
@@ -17,22 +18,42 @@ use std::thread::{Threads, for_each_mut};
 /// Events of a turn at most.
 const MOST: u64 = 4096;
 
-/// Turns of a hart's seat, until it has nothing more to do. After 2^64 - 2 turns, which no run comes to, the rest is left to the caller.
+/// The events of the next turn at most: turns begin with one event and grow twofold.
+fn longer(most: u64) -> u64
+    requires { 0 < most }
+    ensures { 0 < result }
+{
+    if most > MOST / 2 { MOST } else { most + most }
+}
+
+/// Turns of a hart's seat, until it has nothing more to do. After 2^64 - 2 turns, which no run comes to, the rest is left to the caller, and
+/// all where not each worker has a thread.
 fn take_turns<C: Core, R: Wait, G: Gate>(
     rt: &R,
     board: &Board<C>,
     gate: &G,
+    pace: &Pace,
     seat: &mut Seat<C, C::Local>,
 )
     requires seat { IsSeatOf C.history C.space (RunsIn C.opening C.hart_count C.is_local C.ahead_by) board.now seat.old }
     requires hart { number seat.old < C.hart_count (opening_core board.now) }
     ensures { IsSeatOf C.history C.space (RunsIn C.opening C.hart_count C.is_local C.ahead_by) board.now seat.new × (number seat.new ≡ number seat.old) }
 {
+    if !pace.begins() {
+        return;
+    }
+    let mut most = 1;
     for turn in 1..u64::MAX {
         gate.pass(seat.number(), turn);
-        if let Turn::Over = board.turn(rt, seat, MOST) {
-            return;
+        let before = pace.now();
+        match board.turn(rt, seat, most) {
+            Turn::Did { events, last } => pace.after_turn(rt, before, events, last),
+            Turn::Over => {
+                pace.leave();
+                return;
+            }
         }
+        most = longer(most);
     }
 }
 
@@ -41,19 +62,22 @@ fn take_hart_turns<C: Core, R: Wait, G: Gate>(
     rt: &R,
     board: &Board<C>,
     gate: &G,
+    pace: &Pace,
     seat: &mut Seat<C, C::Local>,
 )
     requires { IsHartSeat C.history C.space (RunsIn C.opening C.hart_count C.is_local C.ahead_by) C.hart_count board.now seat.old }
     ensures { IsSeatOf C.history C.space (RunsIn C.opening C.hart_count C.is_local C.ahead_by) board.now seat.new × (number seat.new ≡ number seat.old) }
 {
-    take_turns(rt, board, gate, seat);
+    take_turns(rt, board, gate, pace, seat);
 }
 
-/// Evictions of the seat after those of all harts, until it has nothing more to do. After 2^64 - 2 turns the rest is left to the caller.
+/// Evictions of the seat after those of all harts, until it has nothing more to do. Between two of them a hart goes on, where one has something
+/// to do and doesn't wait. After 2^64 - 2 turns the rest is left to the caller, and all where not each worker has a thread.
 fn evict_all<C: Core, V: Evictions, R: Wait, G: Gate>(
     rt: &R,
     board: &Board<C>,
     gate: &G,
+    pace: &Pace,
     seat: &mut Seat<C, C::Local>,
     evict: &mut V,
 )
@@ -64,13 +88,18 @@ fn evict_all<C: Core, V: Evictions, R: Wait, G: Gate>(
         × (number seat.new ≡ number seat.old) }
     ensures evicts { EvictsFrom V.coming evict.old seat.new evict.new }
 {
+    if !pace.begins() {
+        return;
+    }
     for turn in 1..u64::MAX {
         gate.pass(seat.number(), turn);
+        let before = pace.now();
         let (line, mask) = evict.now();
         match board.evict_turn(rt, seat, line, mask) {
             Turn::Did { .. } => evict.advance(),
             Turn::Over => return,
         }
+        pace.await_others(rt, before);
     }
 }
 
@@ -79,6 +108,7 @@ pub(crate) fn run_harts<C: Core + Send, R: Threads + Wait + Sync, G: Gate + Sync
     rt: &R,
     board: &Board<C>,
     gate: &G,
+    pace: &Pace,
     seats: &mut [Seat<C, C::Local>],
 )
     requires { All (IsHartSeat C.history C.space (RunsIn C.opening C.hart_count C.is_local C.ahead_by) C.hart_count board.now) seats.old }
@@ -97,7 +127,7 @@ pub(crate) fn run_harts<C: Core + Send, R: Threads + Wait + Sync, G: Gate + Sync
             requires { IsHartSeat C.history C.space (RunsIn C.opening C.hart_count C.is_local C.ahead_by) C.hart_count board.now seat.now }
             ensures { IsSeatOf C.history C.space (RunsIn C.opening C.hart_count C.is_local C.ahead_by) board.entry.now seat.exit.now
                 × (number seat.exit.now ≡ number seat.entry.now) }
-        { take_hart_turns(rt, board, gate, seat) },
+        { take_hart_turns(rt, board, gate, pace, seat) },
     );
 }
 
@@ -113,14 +143,15 @@ fn run_part<C: Core + Send, V: Evictions, R: Threads + Wait + Sync, G: Gate + Sy
     rt: &R,
     board: &Board<C>,
     gate: &G,
+    pace: &Pace,
     part: &mut Part<C, C::Local, V>,
 )
     requires { CanRun C.history C.space (RunsIn C.opening C.hart_count C.is_local C.ahead_by) C.hart_count C.evictable V.coming board.now part.old }
     ensures { HasRun C.history C.space (RunsIn C.opening C.hart_count C.is_local C.ahead_by) V.coming board.now part.old part.new }
 {
     match part {
-        Part::Harts(seats) => run_harts(rt, board, gate, seats.as_mut_slice()),
-        Part::Evictor(seat, evict) => evict_all(rt, board, gate, seat, evict),
+        Part::Harts(seats) => run_harts(rt, board, gate, pace, seats.as_mut_slice()),
+        Part::Evictor(seat, evict) => evict_all(rt, board, gate, pace, seat, evict),
     }
 }
 
@@ -130,7 +161,7 @@ pub(crate) fn run_parts<
     V: Evictions + Send,
     R: Threads + Wait + Sync,
     G: Gate + Sync,
->(rt: &R, board: &Board<C>, gate: &G, parts: &mut [Part<C, C::Local, V>])
+>(rt: &R, board: &Board<C>, gate: &G, pace: &Pace, parts: &mut [Part<C, C::Local, V>])
     requires { All (CanRun C.history C.space (RunsIn C.opening C.hart_count C.is_local C.ahead_by) C.hart_count C.evictable V.coming board.now) parts.old }
     ensures { HaveRun C.history C.space (RunsIn C.opening C.hart_count C.is_local C.ahead_by) V.coming board.now parts.old parts.new }
 {
@@ -145,7 +176,7 @@ pub(crate) fn run_parts<
         &|_, part: &mut Part<C, C::Local, V>|
             requires { CanRun C.history C.space (RunsIn C.opening C.hart_count C.is_local C.ahead_by) C.hart_count C.evictable V.coming board.now part.now }
             ensures { HasRun C.history C.space (RunsIn C.opening C.hart_count C.is_local C.ahead_by) V.coming board.entry.now part.entry.now part.exit.now }
-        { run_part(rt, board, gate, part) },
+        { run_part(rt, board, gate, pace, part) },
     );
 }
 
@@ -159,6 +190,7 @@ pub(crate) fn run_all<
     rt: &R,
     board: &Board<C>,
     gate: &G,
+    pace: &Pace,
     seats: Vec<Seat<C, C::Local>>,
     last: Seat<C, C::Local>,
     evict: V,
@@ -173,7 +205,7 @@ pub(crate) fn run_all<
 {
     parts.push_reserved(Part::Harts(seats));
     parts.push_reserved(Part::Evictor(last, evict));
-    run_parts(rt, board, gate, parts.as_mut_slice());
+    run_parts(rt, board, gate, pace, parts.as_mut_slice());
     let (last, evict) = pop_evictor(&mut parts);
     let seats = pop_harts(&mut parts);
     (seats, last, evict)

@@ -25,7 +25,7 @@ module _ {C M V : Type 0} (b : Behaviour M) (opening : C → M) (history : C →
     pub drives : CanDrive history space evictable coming core moment evict
     pub journal : List Entry
     pub seats : ℕ
-    pub legal : IsLegal (play_from b (opening core) (history core) (hart_count core)) turns moment journal
+    pub legal : IsLegal (play_from b (opening core) (history core) (hart_count core) seats) turns moment journal
     pub theirs : All (λ e. e.seat < seats) journal
     pub plays : IsPlayed opening history hart_count space evictable core (events_of journal) left
     pub size : length counts ≡ seats

@@ -1,23 +1,115 @@
+use Rattle.std.proofs.Common.{rules, true, ap, sym, ◌∙◌, refl, subst, ◌≡◌, Some, ℕ, Option}
+use Rattle.machine_events.specs.Cores.{IsValid}
+use Rattle.hart_board.specs.declared.core_turn.Ahead.{Ahead}
+use Rattle.hart_board.specs.CoreTurns.{RunsIn}
+use Rattle.hart_board.specs.declared.views.Known.{Known}
+use Rattle.hart_board.specs.declared.views.Terms.{Terms}
+use Rattle.hart_board.specs.declared.seat.TryTurn.{TryTurn}
+use Rattle.hart_board.specs.Journals.{IsOwn}
+use Rattle.hart_board.specs.BoardRule.{play_of, IsPlayOf, with_seen}
+use Rattle.hart_board.specs.Seats.{IsInReach, TryTells, rules_of}
+use Rattle.hart_board.proofs.TriedTurns.{turns_in, waits_at, took_at}
 use Rattle.hart_board.proofs.board.Board.attempt.Goals as goal
 
-pub try_serve-requires-clause-seat : goal.try_serve-requires-clause-seat
-try_serve-requires-clause-seat g c κs within = let h = c.requires.seat in let s = h.seat in let r = s.represents in record {
-  seat = record {
-    known = s.known;
-    table = s.table;
-    represents = record {
-      me = r.me;
-      out = r.out;
-      numbers = r.numbers;
-      turns_are = r.turns_are;
-      ceiling_is = r.ceiling_is;
-      made_is = r.made_is;
-      within = r.within;
-      ticket_is = r.ticket_is;
-    };
-    terms_are = s.terms_are;
-    inside = s.inside;
-  };
-  reach = h.reach;
-  ahead = c.run_ahead.ensures c.args.self.now.table.shared.key.opening.value c.args.seat.now.number h.ahead;
-}
+pub look-serving-requires-clause-waits : goal.look-serving-requires-clause-waits
+look-serving-requires-clause-waits g c κs lives = let h = c.requires.seat.seat in let x = c.ticket_of-ticket.ensures.represents h.known h.represents in
+    (x.0, x.1, ap (λ m. m.0) x.2.me, ap (λ (z : Known g.row.C.Denot). z.ticket) x.3, x.2.out)
+
+pub returns-then-serving-ticket : goal.returns-then-serving-ticket
+returns-then-serving-ticket g c =
+    let h = c.requires.seat.seat in
+    let x = c.ticket_of-ticket.ensures.represents h.known h.represents in
+    let ticket : x.0.ticket ≡ Some x.1 = ap (λ (z : Known g.row.C.Denot). z.ticket) x.3 in
+    let o = c.look-serving.ensures.looked x.0 x.1 (ap (λ m. m.0) x.2.me) ticket x.2.out in
+    let other = o.3 (λ e. c.if-serving-ticket.true (e ∙ sym x.4)) in
+    let was = c.ticket_of-ticket.new.seat in
+    let kept = c.ticket_of-ticket.ensures.kept in
+    let same = c.ticket_of-ticket.ensures.same in
+    let all = waits_at g.C.Core.behaviour g.C.Core.opening g.C.Core.history g.C.Core.hart_count g.C.Core.space
+    (RunsIn g.C.Core.opening g.C.Core.hart_count g.C.Core.is_local g.C.Core.ahead_by) c.args.self.now c.args.seat.now was
+    record {
+      place = c.look-serving.new.place;
+      number = was.number;
+      turns = was.turns;
+      ceiling = was.ceiling;
+      made = was.made;
+      ticket = was.ticket;
+      local = c.run_ahead.new.ahead;
+    }
+    c.ticket_of-ticket.result c.look-serving.result c.requires.seat x.0 x.1 o.0 x.2 x.3 x.4 same.0 same.1 kept.0 kept.1 o.1 o.2 c.if-serving-ticket.true other.0
+    other.1 c.look-serving.ensures.same.0
+    refl refl refl refl refl
+    (c.run_ahead.ensures c.args.self.now.table.shared.key.opening.value was.number
+    (subst (λ (z : ℕ × Option (Ahead g.row.C-Local.Denot)).
+    RunsIn g.C.Core.opening g.C.Core.hart_count g.C.Core.is_local g.C.Core.ahead_by c.args.self.now.table.shared.key.opening.value z.0 z.1)
+    (λ i. (sym same.1 i, sym same.2 i)) c.requires.seat.ahead)) in
+    record { seat = all.0; turn = all.1 }
+
+pub serve-requires-clause-turn : goal.serve-requires-clause-turn
+serve-requires-clause-turn g c κs lives =
+    let h = c.requires.seat.seat in
+    let play = play_of g.C.Core.behaviour g.C.Core.opening g.C.Core.history g.C.Core.hart_count in
+    let is_play = IsPlayOf g.C.Core.opening g.C.Core.history g.C.Core.hart_count g.C.Core.space g.C.Core.evictable in
+    let x = c.ticket_of-ticket.ensures.represents h.known h.represents in
+    let ticket : x.0.ticket ≡ Some x.1 = ap (λ (z : Known g.row.C.Denot). z.ticket) x.3 in
+    let o = c.look-serving.ensures.looked x.0 x.1 (ap (λ m. m.0) x.2.me) ticket x.2.out in
+    let mine = o.4 (search rules ∙ x.4) in
+    let was = c.ticket_of-ticket.new.seat in
+    let terms = sym (ap (λ (z : Known g.row.C.Denot). z.terms) x.3 ∙ h.terms_are) in (
+      with_seen x.0 o.0 true,
+      mine.1.0,
+      turns_in play is_play was record {
+        place = c.look-serving.new.place;
+        number = was.number;
+        turns = was.turns;
+        ceiling = was.ceiling;
+        made = was.made;
+        ticket = was.ticket;
+        local = c.run_ahead.new.ahead;
+      }
+          h.known x.0 x.1 o.0 mine.1.0 x.2 x.3 o.1 mine.1.1 mine.1.2 mine.0 refl refl refl refl,
+      subst (λ (z : Terms g.row.C.Denot). IsInReach g.C.Core.history g.C.Core.space z) terms c.requires.seat.reach,
+      subst (λ (z : Terms g.row.C.Denot × ℕ). IsOwn (g.C.Core.hart_count z.0.opening.value) z.1 c.args.event)
+          (λ i. (terms i, sym c.ticket_of-ticket.ensures.same.1 i)) c.requires.own,
+      subst (λ (z : Terms g.row.C.Denot). IsValid (g.C.Core.hart_count z.opening.value) (g.C.Core.evictable z.opening.value) c.args.event) terms
+          c.requires.valid,
+      c.run_ahead.ensures x.0.terms.opening.value was.number (subst (λ (z : Terms g.row.C.Denot × (ℕ × Option (Ahead g.row.C-Local.Denot))).
+          RunsIn g.C.Core.opening g.C.Core.hart_count g.C.Core.is_local g.C.Core.ahead_by z.0.opening.value z.1.0 z.1.1)
+          (λ i. (terms i, (sym c.ticket_of-ticket.ensures.same.1 i, sym c.ticket_of-ticket.ensures.same.2 i))) c.requires.seat.ahead),
+    )
+
+pub returns : goal.returns
+returns g c =
+    let h = c.requires.seat.seat in
+    let play = play_of g.C.Core.behaviour g.C.Core.opening g.C.Core.history g.C.Core.hart_count in
+    let is_play = IsPlayOf g.C.Core.opening g.C.Core.history g.C.Core.hart_count g.C.Core.space g.C.Core.evictable in
+    let x = c.ticket_of-ticket.ensures.represents h.known h.represents in
+    let ticket : x.0.ticket ≡ Some x.1 = ap (λ (z : Known g.row.C.Denot). z.ticket) x.3 in
+    let o = c.look-serving.ensures.looked x.0 x.1 (ap (λ m. m.0) x.2.me) ticket x.2.out in
+    let mine = o.4 (search rules ∙ x.4) in
+    let was = c.ticket_of-ticket.new.seat in
+    let same = c.ticket_of-ticket.ensures.same in
+    let turn = turns_in play is_play was record {
+      place = c.look-serving.new.place;
+      number = was.number;
+      turns = was.turns;
+      ceiling = was.ceiling;
+      made = was.made;
+      ticket = was.ticket;
+      local = c.run_ahead.new.ahead;
+    }
+    h.known x.0 x.1 o.0 mine.1.0 x.2 x.3 o.1 mine.1.1 mine.1.2 mine.0 refl refl refl refl in
+    let e = c.serve.ensures.turn (with_seen x.0 o.0 true) mine.1.0 turn in
+    let all = took_at g.C.Core.behaviour g.C.Core.opening g.C.Core.history g.C.Core.hart_count g.C.Core.space
+    (RunsIn g.C.Core.opening g.C.Core.hart_count g.C.Core.is_local g.C.Core.ahead_by) c.args.self.now c.args.seat.now was c.serve.new.seat
+    c.requires.seat x.0 x.1 o.0
+    c.args.event c.args.most c.serve.result x.3 same.0 same.1 o.1 e.0 e.1 e.2 (c.serve.ensures.same.0 ∙ c.look-serving.ensures.same.0) c.serve.ensures.same.1
+    (subst (λ (z : Terms g.row.C.Denot × ℕ).
+    RunsIn g.C.Core.opening g.C.Core.hart_count g.C.Core.is_local g.C.Core.ahead_by z.0.opening.value z.1 c.serve.new.seat.local)
+    (λ i. ((ap (λ (z : Known g.row.C.Denot). z.terms) x.3 ∙ h.terms_are) i, sym c.serve.ensures.same.1 i)) e.3) in
+    record {
+      seat = all.0;
+      turn =
+          subst (λ (z : TryTurn). TryTells (rules_of g.C.Core.behaviour g.C.Core.opening g.C.Core.history g.C.Core.hart_count c.args.self.now) c.args.event
+          c.args.most z c.args.seat.now c.serve.new.seat) (sym c.answer_of.ensures) all.1;
+    }

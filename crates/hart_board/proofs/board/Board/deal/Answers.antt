@@ -9,7 +9,7 @@ use Rattle.hart_board.proofs.board.Board.deal.Goals as goal
 
 pub deal_first-first-requires-clause-me : goal.deal_first-first-requires-clause-me
 deal_first-first-requires-clause-me g c κs within = let i = c.loop-number.number in let m = c.args.count - i in
-    (i, numbers_from (i + 1) m, c.loop-number.invariant.me (suc m) (omega arith))
+    (i, m, c.loop-number.invariant.me (suc m) (omega arith))
 
 pub push_reserved-requires : goal.push_reserved-requires
 push_reserved-requires g c = let n = row_length c.loop-number.row.items c.loop-number.number c.loop-number.invariant.numbers in
@@ -18,13 +18,13 @@ push_reserved-requires g c = let n = row_length c.loop-number.row.items c.loop-n
 pub loop-number-preserved : goal.loop-number-preserved
 loop-number-preserved g c = let i = c.loop-number.number in let inv = c.loop-number.invariant in let dealt = c.deal_first-first.ensures.dealt in
     let m = c.args.count - i in
-    let d = dealt i (numbers_from (i + 1) m) (inv.me (suc m) (omega arith)) in
+    let d = dealt i m (inv.me (suc m) (omega arith)) in
     let s = c.seated.result in let is = c.seated.ensures in let key = c.requires.key in
     let new = new_seat g.C.Core.history g.C.Core.space (RunsIn g.C.Core.opening g.C.Core.hart_count g.C.Core.is_local g.C.Core.ahead_by) c.args.self.now s i
     (ap (λ (z : Seat _ _). z.place.table_id) is ∙ c.deal_first-first.ensures.table.1) (ap (λ (z : Seat _ _). z.place.me) is ∙ d.1)
     (ap (λ (z : Seat _ _). z.number) is)
     (ap (λ (z : Seat _ _). z.turns) is ∙ sym key.0) (ap (λ (z : Seat _ _). z.ceiling) is ∙ sym key.1) (ap (λ (z : Seat _ _). z.made) is)
-    (ap (λ (z : Seat _ _). z.ticket) is) (let all = key.2 in omega (arith, all)) key.3
+    (ap (λ (z : Seat _ _). z.ticket) is) (let small = c.ranges.count.fits in omega (arith, small)) (let all = key.2 in omega (arith, all)) key.3
     (subst (λ (z : ℕ × Option (Ahead g.row.C-Local.Denot)).
     RunsIn g.C.Core.opening g.C.Core.hart_count g.C.Core.is_local g.C.Core.ahead_by c.args.self.now.table.shared.key.opening.value z.0 z.1)
     (λ j. (sym (ap (λ (z : Seat _ _). z.number) is) j, sym (ap (λ (z : Seat _ _). z.local) is ∙ c.take_at-own.ensures.taken) j)) (inv.ahead i)) in
@@ -32,7 +32,7 @@ loop-number-preserved g c = let i = c.loop-number.number in let inv = c.loop-num
     c.loop-number.row.items c.push_reserved.new.self.items s i c.push_reserved.ensures.items inv.numbers inv.seats (ap (λ (z : Seat _ _). z.number) is) new in
     record {
       table = c.deal_first-first.ensures.table.0;
-      me = λ n e. (dealt i (numbers_from (i + 1) n) (inv.me (suc n) (omega (arith, e)))).0;
+      me = λ n e. (dealt i n (inv.me (suc n) (omega (arith, e)))).0;
       numbers = row.0;
       seats = row.1;
       room = c.push_reserved.ensures.capacity ∙ inv.room;

@@ -1,8 +1,7 @@
-use Rattle.std.proofs.Common.{arith, ap, sym, subst, refl}
+use Rattle.std.proofs.Common.{arith, ap, sym, subst, suc, ◌+◌, ◌∷◌, []}
 use Rattle.atomic_table.specs.Table.{Splits}
 use Rattle.hart_board.specs.declared.views.View.{View}
-use Rattle.hart_board.specs.BoardRule.{play_of, IsPlayOf, BoardInv, dealt, without_first, first_alone}
-use Rattle.std.proofs.Common.{◌∷◌}
+use Rattle.hart_board.specs.BoardRule.{play_of, IsPlayOf, BoardInv, dealt, numbers_from, without_first, first_alone}
 use Rattle.hart_board.proofs.JoinsKeepInv.{splits}
 use Rattle.hart_board.proofs.board.Board.deal_first.Goals as goal
 
@@ -13,5 +12,5 @@ split_seat-requires g c = let t = c.requires.me in let sized = c.args.self.now.s
       c.requires.table,
       omega (arith, sized.0),
       subst (λ (z : View g.row.C.Denot). Splits (BoardInv play is_play terms) c.args.place.now.id z (without_first z) (first_alone z)) (sym (ap (λ m. m.0) t.2))
-          (splits play is_play terms c.args.place.now.id t.0 t.1 (dealt terms (t.0 ∷ t.1)) refl refl refl refl),
+          (splits play is_play terms c.args.place.now.id t.0 t.1),
     )

@@ -21,7 +21,7 @@ returns-clause-numbers g c = let d = c.deal.ensures in let n = c.args.seats - 1 
     let new = new_seat g.C.Core.history g.C.Core.space (RunsIn g.C.Core.opening g.C.Core.hart_count g.C.Core.is_local g.C.Core.ahead_by) board s n
     (ap (λ (z : Seat _ _). z.place.table_id) is ∙ d.place.0) (ap (λ (z : Seat _ _). z.place.me) is ∙ d.place.1) (ap (λ (z : Seat _ _). z.number) is)
     (ap (λ (z : Seat _ _). z.turns) is ∙ sym b.2) (ap (λ (z : Seat _ _). z.ceiling) is ∙ sym b.3) (ap (λ (z : Seat _ _). z.made) is)
-    (ap (λ (z : Seat _ _). z.ticket) is) (let all = b.1 in omega (arith, all, some)) reach
+    (ap (λ (z : Seat _ _). z.ticket) is) (let small = c.ranges.seats.fits in omega (arith, small, some)) (let all = b.1 in omega (arith, all, some)) reach
     (subst (λ (z : ℕ × Option (Ahead g.row.C-Local.Denot)).
     RunsIn g.C.Core.opening g.C.Core.hart_count g.C.Core.is_local g.C.Core.ahead_by board.table.shared.key.opening.value z.0 z.1)
     (λ j. (sym (ap (λ (z : Seat _ _). z.number) is) j, sym (ap (λ (z : Seat _ _). z.local) is ∙ c.take_at-last.ensures.taken) j)) (d.ahead n)) in
@@ -40,7 +40,7 @@ returns-clause-seats g c = let d = c.deal.ensures in let n = c.args.seats - 1 in
     let new = new_seat g.C.Core.history g.C.Core.space (RunsIn g.C.Core.opening g.C.Core.hart_count g.C.Core.is_local g.C.Core.ahead_by) board s n
     (ap (λ (z : Seat _ _). z.place.table_id) is ∙ d.place.0) (ap (λ (z : Seat _ _). z.place.me) is ∙ d.place.1) (ap (λ (z : Seat _ _). z.number) is)
     (ap (λ (z : Seat _ _). z.turns) is ∙ sym b.2) (ap (λ (z : Seat _ _). z.ceiling) is ∙ sym b.3) (ap (λ (z : Seat _ _). z.made) is)
-    (ap (λ (z : Seat _ _). z.ticket) is) (let all = b.1 in omega (arith, all, some)) reach
+    (ap (λ (z : Seat _ _). z.ticket) is) (let small = c.ranges.seats.fits in omega (arith, small, some)) (let all = b.1 in omega (arith, all, some)) reach
     (subst (λ (z : ℕ × Option (Ahead g.row.C-Local.Denot)).
     RunsIn g.C.Core.opening g.C.Core.hart_count g.C.Core.is_local g.C.Core.ahead_by board.table.shared.key.opening.value z.0 z.1)
     (λ j. (sym (ap (λ (z : Seat _ _). z.number) is) j, sym (ap (λ (z : Seat _ _). z.local) is ∙ c.take_at-last.ensures.taken) j)) (d.ahead n)) in

@@ -1,4 +1,4 @@
-use Rattle.std.proofs.Common.{arith, ◌+◌, ap, ◌∙◌, refl, subst, ℕ, Some, None, length}
+use Rattle.std.proofs.Common.{arith, ◌≡◌, ◌+◌, ap, ◌∙◌, refl, subst, ℕ, Some, None, length}
 use Rattle.hart_board.specs.declared.views.View.TheVariants.{Seated}
 use Rattle.hart_board.specs.Seats.{HasTicket}
 use Rattle.hart_board.proofs.board.Board.ticket_of.Goals as goal
@@ -27,6 +27,7 @@ returns-in-None-clause-represents g c k s = let h : HasTicket None k = subst (λ
         made_is = s.made_is;
         within = s.within;
         ticket_is = (refl, (d.0, refl, d.2));
+        first = λ t has below. absurd (let same : d.0 ≡ t = cc has in let none = d.4 in omega (arith, same, below, none));
       },
       refl,
       d.2,
