@@ -1,0 +1,4 @@
+mod CountedLocks
+mod EnteringHarts
+mod ShortRecords
+mod RoundsOfHarts

@@ -1,0 +1,3 @@
+mod Values
+mod SameSteps
+pub mod Public
