@@ -10,10 +10,13 @@ use Rattle.crash_simulation.proofs.Common.{is_bound, begins, IsUnlocked, was_unl
 use Rattle.crash_simulation.proofs.Common.{EventsStand, RunsSimulate, SectionsEndAtPoints, loses_point, RecoveredAreCounted, sections_kept, one_if}
 use Rattle.crash_simulation.proofs.Common.{IsReleasedOf, ended_in_machine, SectionsAreKept, SimulatesBut, Simulates, anybody, System, IsSystem, thread_count}
 use Rattle.crash_simulation.proofs.Common.{flat_of, ThreadGhost}
+use Rattle.crash_simulation.proofs.Common.{boundary_fences, AreFencesCounted}
+use Rattle.crash_simulation.proofs.Common.{is_fence, finishes_fence, is_point_store, stores_point, effect_at, same_or_other, unequal_of, and_left, and_right, Effect}
 use Rattle.std.specs.Prelude.{if◌then◌else◌}
 use Rattle.machine_events.specs.declared.event.Event.TheVariants.{Start}
 use Rattle.source_machine.specs.Lives.{end_lives, ends_life}
-use Rattle.machine_model.specs.Schedule.{KeepsOn, begins_life, released_along}
+use Rattle.machine_model.specs.Schedule.{KeepsOn, begins_life, completes, released_along}
+use Rattle.crash_simulation.proofs.BoundaryFences.{joined_fences, same_fences}
 use Rattle.crash_simulation.specs.AccountRelation.{SimulatesLives, beginning_after, next_beginning}
 use Rattle.crash_simulation.specs.ReleasedSections.{ended_by}
 use Rattle.crash_simulation.specs.InstructionSteps.{on_fragment, at_core}
@@ -69,6 +72,34 @@ step_of h n e = cc
 pub not_running : (w : World) (h : ℕ) (hart : Hart) → slice_get w.harts h ≡ Some hart → is_running hart.phase ≡ false → IsInPhase w h Run → ⊥
 not_running w h hart here off i = true≢false (sym (ap is_running (ap (λ (x : Hart). x.phase) (same_Some hart i.hart (sym here ∙ i.here)) ∙ i.phase_is)) ∙ off)
 
+-- ---- What a step completes
+
+-- nothing of another hart
+completes_other : (test : Effect → Bool) (program : List (List Slot)) (w : World) (h n : ℕ) → n ≢ h → completes test program w (Step h) n ≡ false
+completes_other test program w h n apart = and_left (h == n) _ (unequal_of h n (λ e. apart (sym e)))
+
+abbrev completed_by : (test : Effect → Bool) (program : List (List Slot)) (h : ℕ) → Option Hart → Bool
+completed_by test program h o = elim o [
+  | None ↦ false
+  | Some hart ↦ elim (effect_at program h hart) [
+    | None ↦ false
+    | Some effect ↦ test effect
+  ]
+]
+
+-- nothing of any hart where its step completes no instruction
+completes_none : (test : Effect → Bool) (program : List (List Slot)) (w : World) (h n : ℕ) → completing program w h ≡ None →
+    completes test program w (Step h) n ≡ false
+completes_none test program w h n none = elim (same_or_other n h) [
+  | inl same ↦
+      subst (λ (k : ℕ). completes test program w (Step h) k ≡ false) (sym same)
+      (and_right (h == h) (completed_by test program h (completing program w h)) (ap (completed_by test program h) none))
+  | inr apart ↦ completes_other test program w h n apart
+]
+
+start_no_crash : Start ≡ Crash → ⊥
+start_no_crash e = cc e
+
 -- ---- What an event does
 
 -- the steps of the source that it begins
@@ -111,7 +142,7 @@ module _ (y : System) (s : IsSystem y) (w : World) (event : Event) (old : Simula
   later_world = after_event program w event
 
   -- while the life goes on, the source goes on by these steps, and each attempt comes as far as any before; a thread has to give back what it had, or what its
-  -- step unlocks; and a hart that executes instructions is one step nearer to its next mark by its own steps
+  -- step unlocks; a hart that executes instructions is one step nearer to its next mark by its own steps; and what is finished of fences no boundary has more ahead
   pub record Continues {waiting : ℕ → Type 0} (new : SimulatesBut y s later_world waiting) : Type 0 where
     pub source : now new.abstract.config ≡ after_from (now old.abstract.config) (begun_in y w event)
     pub runs : runs_from (now old.abstract.config) (begun_in y w event) ≡ true
@@ -121,6 +152,8 @@ module _ (y : System) (s : IsSystem y) (w : World) (event : Event) (old : Simula
     pub others : (n : ℕ) → event ≢ Step n → (new.ghosts n).giving ≡ (old.ghosts n).giving
     pub stays : (n : ℕ) → (event ≡ Step n → IsInPhase w n Run → ⊥) → (new.ghosts n).before_mark ≡ (old.ghosts n).before_mark
     pub nears : (n : ℕ) → event ≡ Step n → IsInPhase w n Run → Nears y w n (passes_mark marks program w n) (old.ghosts n).before_mark (new.ghosts n).before_mark
+    pub fences : (n : ℕ) → AreFencesCounted (boundary_fences y.plan.log) (finishes_fence program w event n) (stores_point program w event n)
+        (old.ghosts n).rest (new.ghosts n).rest
 
   -- the steps are accounted so, and what the machine released
   abbrev IsCountedThen : {waiting : ℕ → Type 0} → SimulatesBut y s later_world waiting → (account : Steps → Steps) → Type 0
@@ -143,6 +176,13 @@ module _ (y : System) (s : IsSystem y) (w : World) (event : Event) (old : Simula
     pub on : KeepsOn event → Continues next
     pub whole : begins_life w event ≡ true → ends_life old.abstract.origin.source old.abstract.schedule ≡ true
     pub anew : begins_life w event ≡ true → HasBegun y s later_world next
+    -- a crash cuts boundaries off, and nothing else does
+    pub fences : event ≢ Crash → (n : ℕ) → n < thread_count y →
+        AreFencesCounted (boundary_fences y.plan.log) (finishes_fence program w event n) (stores_point program w event n) (old.ghosts n).rest (next.ghosts n).rest
+    pub cut_off : event ≡ Crash → (n : ℕ) → (next.ghosts n).rest ≡ []
+
+  no_crash : KeepsOn event → event ≢ Crash
+  no_crash keeps is = subst KeepsOn is keeps
 
   -- what is committed then is taken so
   commits_move : KeepsOn event → Moves → GoesOn
@@ -159,6 +199,10 @@ module _ (y : System) (s : IsSystem y) (w : World) (event : Event) (old : Simula
         ends = λ none n. same_then_end y old.abstract moves.next.abstract n c.stands.abstract (moves.sections n) (c.ends n);
         whole = λ begins. absurd (true≢false (sym begins ∙ none_begins w event keeps));
         anew = λ begins. absurd (true≢false (sym begins ∙ none_begins w event keeps));
+        fences = λ other n below.
+            coe 0 1 (j. AreFencesCounted (boundary_fences y.plan.log) (finishes_fence program w event n) (stores_point program w event n) (old.ghosts n).rest
+            ((sym (c.rest n)) j)) (moves.on.fences n);
+        cut_off = λ is. absurd (no_crash keeps is);
         on = λ on. record {
           source = c.source ∙ moves.on.source;
           runs = moves.on.runs;
@@ -168,6 +212,9 @@ module _ (y : System) (s : IsSystem y) (w : World) (event : Event) (old : Simula
           stays = λ n other. c.ahead n ∙ moves.on.stays n other;
           nears = λ n own i.
               coe 0 1 (j. Nears y w n (passes_mark marks program w n) (old.ghosts n).before_mark (sym (c.ahead n) j)) (moves.on.nears n own i);
+          fences = λ n.
+              coe 0 1 (j. AreFencesCounted (boundary_fences y.plan.log) (finishes_fence program w event n) (stores_point program w event n) (old.ghosts n).rest
+              ((sym (c.rest n)) j)) (moves.on.fences n);
         };
       }
 
@@ -226,6 +273,9 @@ module _ (fragments_step : FragmentsStep) (cores_step : CoresStep) where
               others = λ n other. refl;
               stays = λ n other. refl;
               nears = λ n is i. absurd (off (subst (λ (k : ℕ). IsInPhase w k Run) (sym (step_of h n is)) i));
+              fences = λ n.
+                  same_fences (boundary_fences y.plan.log) _ _ (old.ghosts n).rest (completes_none is_fence y.runs.program w h n none)
+                  (completes_none (is_point_store w.log n) y.runs.program w h n none);
             };
           }
 
@@ -267,6 +317,20 @@ module _ (fragments_step : FragmentsStep) (cores_step : CoresStep) where
                   subst (λ (k : ℕ). Nears y w k (passes_mark y.runs.marks y.runs.program w k) (old.ghosts k).before_mark
                   (later.ghosts k).before_mark) (step_of h n is)
                   (coe 0 1 (j. Nears y w h (marks j) ((r.similar.same h).ahead j) ((sym (own_ghost ghosts h o.ghost)) j).before_mark) o.counted.nears);
+              fences = λ n.
+                  joined_fences (boundary_fences y.plan.log) (finishes_fence y.runs.program w (Step h) n) (stores_point y.runs.program w (Step h) n)
+                  (old.ghosts n).rest (ghosts n).rest (later.ghosts n).rest (r.similar.fences n) (elim (same_or_other n h) [
+                    | inl same ↦
+                        subst (λ (k : ℕ). AreFencesCounted (boundary_fences y.plan.log) (finishes_fence y.runs.program w (Step h) k)
+                        (stores_point y.runs.program w (Step h) k) (ghosts k).rest (later.ghosts k).rest) (sym same)
+                        (coe 0 1 (j. AreFencesCounted (boundary_fences y.plan.log) (finishes_fence y.runs.program w (Step h) h)
+                        (stores_point y.runs.program w (Step h) h) (ghosts h).rest ((sym (own_ghost ghosts h o.ghost)) j).rest) o.counted.fences)
+                    | inr apart ↦
+                        coe 0 1 (j. AreFencesCounted (boundary_fences y.plan.log) (finishes_fence y.runs.program w (Step h) n)
+                        (stores_point y.runs.program w (Step h) n) (ghosts n).rest ((sym (other_ghost ghosts h o.ghost n apart)) j).rest)
+                        (same_fences (boundary_fences y.plan.log) _ _ (ghosts n).rest (completes_other is_fence y.runs.program w h n apart)
+                        (completes_other (is_point_store w.log n) y.runs.program w h n apart))
+                  ]);
             };
           }
 
@@ -306,6 +370,7 @@ module _ (fragments_step : FragmentsStep) (cores_step : CoresStep) where
         others = λ n other. refl;
         stays = λ n other. refl;
         nears = λ n is i. cc;
+        fences = λ n. same_fences (boundary_fences y.plan.log) false false (old.ghosts n).rest refl refl;
       };
     }
 
@@ -321,6 +386,8 @@ module _ (fragments_step : FragmentsStep) (cores_step : CoresStep) where
       on = λ on. absurd on;
       whole = λ begins. absurd (true≢false (sym begins));
       anew = λ begins. absurd (true≢false (sym begins));
+      fences = λ other. absurd (other refl);
+      cut_off = λ is n. refl;
     }
     event_goes_on y s w Start old =
         let o = start_goes y s w old in record {
@@ -330,6 +397,8 @@ module _ (fragments_step : FragmentsStep) (cores_step : CoresStep) where
           on = λ on. absurd on;
           whole = o.whole;
           anew = o.anew;
+          fences = λ other n below. o.fences n below;
+          cut_off = λ is. absurd (start_no_crash is);
         }
 
     pub events_stand : EventsStand

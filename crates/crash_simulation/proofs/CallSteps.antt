@@ -9,14 +9,16 @@ use Rattle.crash_simulation.proofs.Common.{on_machine, AreMarksOf, GivesMutex, u
 use Rattle.crash_simulation.proofs.Common.{holds_none_is, kept_of, now_of, is_bound, is_leaving, was_unlocked, Releases, nothing_released, last_released, stays}
 use Rattle.crash_simulation.proofs.Common.{CallsStep, halts, is_nearer, IsGiving, entry_ahead, most_ahead, IsSoon, System, IsSystem, flat_of, Rests}
 use Rattle.crash_simulation.proofs.Common.{ThreadGhost, on_fragment, InPhase, ThreadInv, IsRunningThread, GoesClean, IsBounded}
+use Rattle.crash_simulation.proofs.Common.{boundary_fences}
 use Rattle.node_code.specs.Pieces.{gives, ends}
 use Rattle.crash_simulation.specs.InstructionSteps as moving
+use Rattle.crash_simulation.proofs.BoundaryFences.{same_fences}
 use Rattle.crash_simulation.proofs.LastReleases.{holds_some, no_release, holders_stay_none, is_release, none_leaving, describes_test}
 use Rattle.crash_simulation.proofs.LocksAfterStep.{GoneOn, runs_held, held_given}
 use Rattle.crash_simulation.proofs.OwnHartSteps.{view, StepOf, own_step, own_giving, locks_to, held_still}
 use Rattle.crash_simulation.proofs.LockCallSteps.{none_from, point_none, AtEnd, MovesHart, FragmentTo, z, invariant, placed_here, exists_now, now_holders}
 use Rattle.crash_simulation.proofs.LockCallSteps.{kept_held, fragment_over, none_left, rest_over, hart_is, committed_over, call_stores, points_none, alone}
-use Rattle.crash_simulation.proofs.LockCallSteps.{holders_after, memory_after, describes_new, asks_step}
+use Rattle.crash_simulation.proofs.LockCallSteps.{holders_after, memory_after, describes_new, asks_step, fences_still}
 use Rattle.crash_simulation.proofs.StatesMatchSource.{kept_matches}
 use Rattle.crash_simulation.proofs.KeptThreads.{phase_moves}
 use Rattle.crash_simulation.proofs.LoadFreeEnvironment.{bare_answers, placed}
@@ -203,6 +205,7 @@ module _ {y : System} {s : IsSystem y} {w : World} {h from mutex : ℕ} (at : At
       unlocked = λ lock gives. absurd (none-some lock gives);
       points = given.counts.0 ∙ not_twice (is_bound c);
       bound = λ e. e;
+      fences = same_fences (boundary_fences y.plan.log) _ _ c.rest given.counts.1 given.counts.0;
       nears = elim (cases_Bool is_over) [
         | inl over ↦ halts given_hart (alone at given_move).here (inl (cond-true is_over Done Run over))
         | inr more ↦ is_nearer (nearer.0 ∙ ap suc (sym (cond-false is_over (most_ahead y n) (c.before_mark - 1) more)))
@@ -276,6 +279,7 @@ module _ {y : System} {s : IsSystem y} {w : World} {h : ℕ} (at : AtEnd y s w h
       unlocked = λ lock gives. was_unlocked refl gives;
       points = points_none at at_end;
       bound = λ e. e;
+      fences = fences_still at at_end;
       nears = halts ended_move.new (alone at ended_move).here (inr refl);
     };
     released = nothing_released (holders_stay_none y.runs.program w n (holders_after at ended_move)) refl;

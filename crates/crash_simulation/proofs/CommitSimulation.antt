@@ -239,6 +239,7 @@ pub record CatchesUp (y : System) (s : IsSystem y) (w : World) (first : Simulate
   pub tried : AreFurthest first.abstract.config → AreFurthest stands.abstract.config
   pub giving : (n : ℕ) → (stands.ghosts n).giving ≡ (first.ghosts n).giving
   pub ahead : (n : ℕ) → (stands.ghosts n).before_mark ≡ (first.ghosts n).before_mark
+  pub rest : (n : ℕ) → (stands.ghosts n).rest ≡ (first.ghosts n).rest
   pub counted : (g : Beginning) (steps : Steps) (r : ℕ → ℕ) → AreCounted y g w first.abstract first.ghosts steps r →
       AreCounted y g w stands.abstract stands.ghosts (with_all_kept w.log w.words count steps) r
   -- sections that are kept since
@@ -282,6 +283,7 @@ module _ (y : System) (s : IsSystem y) (w : World) (first : SimulatesBut y s w a
           tried = λ furthest. one.tried (h.tried furthest);
           giving = h.giving;
           ahead = h.ahead;
+          rest = h.rest;
           counted = λ g steps r counted.
               counted_after y s w k below h.stands one not_yet g (with_all_kept w.log w.words k steps) r (h.counted g steps r counted) bound reached;
           ends = λ n. elim (same_or_other n k) [
@@ -306,6 +308,7 @@ module _ (y : System) (s : IsSystem y) (w : World) (first : SimulatesBut y s w a
       tried = h.tried;
       giving = h.giving;
       ahead = h.ahead;
+      rest = h.rest;
       counted = λ g steps r counted.
           let later = h.counted g steps r counted in
           subst (λ (z : Steps). AreCounted y g w h.stands.abstract h.stands.ghosts z r)
@@ -344,6 +347,7 @@ module _ (y : System) (s : IsSystem y) (w : World) (first : SimulatesBut y s w a
     tried = λ furthest. furthest;
     giving = λ n. refl;
     ahead = λ n. refl;
+    rest = λ n. refl;
     counted = λ g steps r counted. counted;
     ends = λ n. same_end y first.abstract first.abstract n (record { sections = refl; between = refl });
     same_later = λ n later. record { sections = refl; between = refl };

@@ -14,9 +14,11 @@ use Rattle.crash_simulation.proofs.Common.{IsOnFragment, on_machine, Keeps, Asks
 use Rattle.crash_simulation.proofs.Common.{AbstractRun, kept_of, is_bound, was_unlocked, Site, FragmentsStep, nothing_released, is_nearer, MayStore, nothing}
 use Rattle.crash_simulation.proofs.Common.{in_log, goes, OnFragmentNow, IsSoon, beyond, System, IsSystem, flat_of, shapes_of, places_of, ThreadGhost}
 use Rattle.crash_simulation.proofs.Common.{on_fragment, InPhase, ThreadInv, ExitInv, InFragment, is_reached, is_ahead, IsFlushed}
+use Rattle.crash_simulation.proofs.Common.{is_fence, finishes_fence, boundary_fences, AreFencesCounted}
 use Rattle.ido_base.specs.Growth as growth
 use Rattle.hart_runs.specs.RunSteps as steps
 use Rattle.thread_runs.specs.Laws as runs
+use Rattle.crash_simulation.proofs.BoundaryFences.{same_fences, next_fences}
 use Rattle.crash_simulation.proofs.OwnHartSteps.{step_to, view, StepOf, own_step, held_still}
 use Rattle.crash_simulation.proofs.PendingFlushes.{Passage, StillComes, run_after, stored_same, fence_settles}
 use Rattle.crash_simulation.proofs.ThreadViews.{IsStill, committed_on, exit_on, log_moved, moves_at}
@@ -30,7 +32,7 @@ use Rattle.crash_simulation.proofs.LocksAfterStep.{GoneOn}
 
 -- none; the first clean of the store's code; or the first of the boundary's
 pub data Made (cleans rest later : List Effect) (effect : Effect) : Type 0 where
-  no_effect : is_store effect ≡ false → later ≡ cleans ++ rest → Made cleans rest later effect
+  no_effect : is_store effect ≡ false → is_fence effect ≡ false → later ≡ cleans ++ rest → Made cleans rest later effect
   cleans_first : (address : ℕ) (others : List Effect) → effect ≡ Cleans address → cleans ≡ Cleans address ∷ others → later ≡ others ++ rest →
       Made cleans rest later effect
   bounds_first : cleans ≡ [] → rest ≡ effect ∷ later → Made cleans rest later effect
@@ -49,9 +51,9 @@ first_made (x ∷ others) rest later effect all h =
 
 pub made_by : (cleans rest later : List Effect) (effect : Effect) → ((e : Effect) → Contains cleans e → is_clean e ≡ true) →
     cleans ++ rest ≡ effects_of effect ++ later → Made cleans rest later effect
-made_by cleans rest later (Continues registers pc) all h = no_effect refl (sym h)
-made_by cleans rest later (Loads address bytes signed register) all h = no_effect refl (sym h)
-made_by cleans rest later Calls all h = no_effect refl (sym h)
+made_by cleans rest later (Continues registers pc) all h = no_effect refl refl (sym h)
+made_by cleans rest later (Loads address bytes signed register) all h = no_effect refl refl (sym h)
+made_by cleans rest later Calls all h = no_effect refl refl (sym h)
 made_by cleans rest later effect all h = first_made cleans rest later effect all h
 
 -- what stores nothing leaves words
@@ -143,6 +145,11 @@ module _ {y : System} {s : IsSystem y} {w : World} {h : ℕ} (site : Site y s w 
   abbrev ghost_with : (rest cleans : List Effect) → ThreadGhost
   ghost_with rest cleans = record c { rest = rest; cleans = cleans; before_mark = c.before_mark - 1 }
 
+  -- what is counted of the step, where this is ahead of the boundary then
+  abbrev FencesCounted : List Effect → Type 0
+  FencesCounted rest = AreFencesCounted (boundary_fences y.plan.log) (finishes_fence y.runs.program w (Step n) n) (stores_point y.runs.program w (Step n) n)
+      c.rest rest
+
   -- ---- Whatever it makes
 
   -- what the step does to the hart: it is in the fragment still, one step less is ahead of it, and its queue reaches what it reached
@@ -169,7 +176,7 @@ module _ {y : System} {s : IsSystem y} {w : World} {h : ℕ} (site : Site y s w 
   module _ (d : Does) (ahead : Ahead d) (persisted : ArePersisted old_memory new_memory) (move : MovesTo n w fragment.on.hart c.rest v ahead.rest)
       (settled : Settles ahead.rest) (may : MayStore y b n d.effect)
       (points : stores_point y.runs.program w (Step n) n ≡ (not (is_bound c) && is_bound (ghost_with ahead.rest ahead.cleans)))
-      (bound : is_bound c ≡ true → is_bound (ghost_with ahead.rest ahead.cleans) ≡ true) where
+      (bound : is_bound c ≡ true → is_bound (ghost_with ahead.rest ahead.cleans) ≡ true) (fences : FencesCounted ahead.rest) where
     open ahead use {rest, cleans}
 
     persisting : ArePersisted b.config.memory new_memory
@@ -250,6 +257,7 @@ module _ {y : System} {s : IsSystem y} {w : World} {h : ℕ} (site : Site y s w 
         unlocked = λ mutex gives. was_unlocked refl gives;
         points = points;
         bound = bound;
+        fences = fences;
         nears = is_nearer nearer.0;
       };
       released = nothing_released (holders_stay_none y.runs.program w n d.holders) refl;
@@ -304,7 +312,7 @@ module _ {y : System} {s : IsSystem y} {w : World} {h : ℕ} (site : Site y s w 
         holders = ap (λ (z : World). z.holders) d.world;
       } in
       step_made does (all_ahead does refl) persisted (still_moves does none) (settled_still persisted c.rest refl) (nothing d.effect none)
-      (u.counts.0 ∙ not_twice (is_bound c)) (λ e. e)
+      (u.counts.0 ∙ not_twice (is_bound c)) (λ e. e) (same_fences (boundary_fences y.plan.log) _ _ c.rest u.counts.1 u.counts.0)
 
   -- ---- A step that goes on
 
@@ -332,14 +340,16 @@ module _ {y : System} {s : IsSystem y} {w : World} {h : ℕ} (site : Site y s w 
     words_are = ap (λ (z : World). z.words) g.forward.world
 
     -- nothing but cleans
-    makes_none : (ahead : Ahead does) → ahead.rest ≡ c.rest → is_store effect ≡ false → StepOf site n
-    makes_none ahead same none =
+    makes_none : (ahead : Ahead does) → ahead.rest ≡ c.rest → is_store effect ≡ false → is_fence effect ≡ false → StepOf site n
+    makes_none ahead same none unfenced =
         let persisted = same_persisted (ap (memory_in (places_of y)) (words_are ∙ words_same effect old g.forward.contents none g.forward.changes)) in
         step_made does ahead persisted (subst (MovesTo n w fragment.on.hart c.rest v) (sym same) (still_moves does none))
         (settled_still persisted ahead.rest (ap fences_ahead same)) (nothing effect none)
         (g.point ∙ no_point w.log n effect none ∙ not_twice (is_bound c)
         ∙ ap (λ (es : List Effect). not (is_bound c) && is_bound (record c { rest = es })) (sym same))
         (λ e. ap (λ (es : List Effect). is_bound (record c { rest = es })) same ∙ e)
+        (subst FencesCounted (sym same)
+        (same_fences (boundary_fences y.plan.log) _ _ c.rest (g.fence ∙ unfenced) (g.point ∙ no_point w.log n effect none)))
 
     -- the first clean of the store's code
     abbrev clean_ahead : (address : ℕ) (others : List Effect) → effect ≡ Cleans address → c.cleans ≡ Cleans address ∷ others → g.later ≡ others ++ c.rest →
@@ -412,8 +422,8 @@ module _ {y : System} {s : IsSystem y} {w : World} {h : ℕ} (site : Site y s w 
       then_bound = ghost_with g.later c.cleans
 
       makes_bound : Settles g.later → stores_point y.runs.program w (Step n) n ≡ (not (is_bound c) && is_bound then_bound) →
-          (is_bound c ≡ true → is_bound then_bound ≡ true) → StepOf site n
-      makes_bound settled points bound = step_made does (record {
+          (is_bound c ≡ true → is_bound then_bound ≡ true) → FencesCounted g.later → StepOf site n
+      makes_bound settled points bound fences = step_made does (record {
         rest = g.later;
         cleans = c.cleans;
         later_is = ap (λ (es : List Effect). es ++ g.later) (sym no_cleans);
@@ -421,7 +431,14 @@ module _ {y : System} {s : IsSystem y} {w : World} {h : ℕ} (site : Site y s w 
         no_rest = λ none. absurd (some_rest none);
         no_cleans = λ e. e;
         still = λ address found. inl found;
-      }) persisted moves_log settled (log_may y b w n logs effect inside.0) points bound
+      }) persisted moves_log settled (log_may y b w n logs effect inside.0) points bound fences
+
+      -- the effect is no more ahead
+      fences_counted : (is_store effect ≡ true → stores_point y.runs.program w (Step n) n ≡ not (list_any is_store g.later)) → FencesCounted g.later
+      fences_counted last =
+          subst (λ (es : List Effect). AreFencesCounted (boundary_fences y.plan.log) (finishes_fence y.runs.program w (Step n) n)
+          (stores_point y.runs.program w (Step n) n) es g.later) (sym rest)
+          (next_fences (boundary_fences y.plan.log) _ _ effect g.later g.fence last (λ none. g.point ∙ no_point w.log n effect none))
 
       fences_same : (e : Effect) → effect ≡ e → fences_ahead (e ∷ g.later) ≡ fences_ahead g.later → fences_ahead g.later ≡ fences_ahead c.rest
       fences_same e same none = sym (ap fences_ahead (rest ∙ ap (λ (x : Effect). x ∷ g.later) same) ∙ none)
@@ -438,6 +455,7 @@ module _ {y : System} {s : IsSystem y} {w : World} {h : ℕ} (site : Site y s w 
           makes_bound settled
           (g.point ∙ no_point w.log n effect (ap is_store same ∙ no_store) ∙ not_twice (is_bound c)
           ∙ ap (λ (b : Bool). not (is_bound c) && b) (sym bound)) (λ was. bound ∙ was)
+          (fences_counted (λ stores. absurd (true≢false (sym stores ∙ (ap is_store same ∙ no_store)))))
 
       -- a word of the log
       module _ (i value : ℕ) (below : i < log_words w.log) (same : effect ≡ Stores (log_of w.log n + 8 * i) 8 value) where
@@ -456,15 +474,20 @@ module _ {y : System} {s : IsSystem y} {w : World} {h : ℕ} (site : Site y s w 
         uncommitted : c.committed ≡ false
         uncommitted = grind (arith, nat_tests)
 
-        points_are : stores_point y.runs.program w (Step n) n ≡ (not (is_bound c) && is_bound then_bound)
-        points_are =
+        last_stored : stores_point y.runs.program w (Step n) n ≡ not (list_any is_store g.later)
+        last_stored =
             g.point ∙ ap (is_point_store w.log n) same
             ∙ point_store_is_last w.log n c.old c.new (config_of w t.log.hart c.rest) place 8 value g.later t.log.log rest_is
+
+        points_are : stores_point y.runs.program w (Step n) n ≡ (not (is_bound c) && is_bound then_bound)
+        points_are = last_stored
             ∙ sym (ap (λ (b : Bool). not b && is_bound then_bound) unbound
             ∙ ap (λ (b : Bool). not b && not (list_any is_store g.later)) uncommitted)
 
         makes_log_store : StepOf site n
-        makes_log_store = grind (arith, true≢false, fences_same, makes_bound, none_more, persisted, points_are, settled_still, unbound)
+        makes_log_store =
+            makes_bound (settled_still persisted g.later (fences_same (Stores place 8 value) same none_more)) points_are
+            (λ was. absurd (true≢false (sym was ∙ unbound))) (fences_counted (λ stores. last_stored))
 
       makes_log : IsLogEffect w.log n effect → StepOf site n
       makes_log (StoresWord i value below same) = makes_log_store i value below same
@@ -474,8 +497,9 @@ module _ {y : System} {s : IsSystem y} {w : World} {h : ℕ} (site : Site y s w 
       makes_log (PassesFence same) = makes_no_store Fences same refl (fence_settled same)
 
     made : Made c.cleans c.rest g.later effect → StepOf site n
-    made (no_effect none later) = makes_none (all_ahead does later) refl none
+    made (no_effect none unfenced later) = makes_none (all_ahead does later) refl none unfenced
     made (cleans_first address others is_that cleans later) = makes_none (clean_ahead address others is_that cleans later) refl (ap is_store is_that)
+        (ap is_fence is_that)
     made (bounds_first none rest) = makes_log none rest (inside none rest).0
 
     goes_forward : StepOf site n

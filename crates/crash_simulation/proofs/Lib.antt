@@ -1,5 +1,6 @@
 pub mod Public
 mod Common
+mod BoundaryFences
 mod StatesMatchSource
 mod StepsAfterMarks
 mod RecordsAfterCrash

@@ -1,6 +1,6 @@
 -- A start: another life begins where each hart has stopped between sections, and else nothing changes.
 use Rattle.std.proofs.Common.{◌≡◌, ◌⊎◌, inl, inr, refl, ℕ, ◌+◌, List, [], ◌∷◌, ◌++◌, length, ap, ap₂, sym, subst, ◌∙◌, arith, Bool, true, false}
-use Rattle.std.proofs.Common.{◌&&◌, Some, None}
+use Rattle.std.proofs.Common.{◌&&◌, ◌<◌, Some, None}
 use Rattle.std.specs.Prelude.{if◌then◌else◌}
 use Rattle.std.proofs.lemmas.Bool.{and_parts, true≢false}
 use Rattle.machine_events.specs.declared.event.Event.TheVariants.{Start}
@@ -16,12 +16,16 @@ use Rattle.recovery_semantics.specs.Attempts.{Attempt}
 use Rattle.recovery_semantics.specs.Configs.{now}
 use Rattle.recovery_semantics.proofs.Public.{none_yet}
 use Rattle.region_attempts.specs.Origins.{Origin}
-use Rattle.crash_simulation.specs.Systems.{System, IsSystem, flat_of}
+use Rattle.rv64_isa.specs.Rows.{Effect}
+use Rattle.crash_simulation.specs.Systems.{System, IsSystem, flat_of, thread_count}
+use Rattle.crash_simulation.specs.ThreadGhosts.{InPhase}
+use Rattle.crash_simulation.specs.BoundaryFences.{boundary_fences, AreFencesCounted}
 use Rattle.crash_simulation.specs.AbstractRuns.{AbstractRun}
 use Rattle.crash_simulation.specs.SimulationRelation.{Simulates}
 use Rattle.crash_simulation.specs.AccountRelation.{AreCounted, Beginning, next_beginning}
 use Rattle.crash_simulation.specs.LaterLives.{HaveStopped, IsBegunAnew}
 use Rattle.crash_simulation.proofs.AccountsBeforeCommit.{begun_counted, none_more, released_by}
+use Rattle.crash_simulation.proofs.BoundaryFences.{same_fences}
 use Rattle.crash_simulation.proofs.LifeAccounts.{all_between}
 use Rattle.crash_simulation.proofs.LifeBeginnings.{BeginsLife, life_stands}
 use Rattle.crash_simulation.proofs.LivesBegin.{ends_between, life, origin, stands_anew}
@@ -34,6 +38,7 @@ pub record HasBegun (y : System) (s : IsSystem y) (v : World) (stands : Simulate
   pub now_is : now stands.abstract.config ≡ stands.abstract.origin.source
   pub furthest : AreFurthest stands.abstract.config
   pub none_giving : (n : ℕ) → (stands.ghosts n).giving ≡ None
+  pub none_ahead : (n : ℕ) → (stands.ghosts n).rest ≡ []
 
 pub has_begun : (y : System) (s : IsSystem y) (o : Origin (flat_of y)) (v : World) (begins : BeginsLife y o v) → HasBegun y s v (life_stands y s o v begins)
 has_begun y s o v begins = record {
@@ -42,6 +47,7 @@ has_begun y s o v begins = record {
       let none = none_yet (flat_of y).threads thread in
       ap (λ (a : Attempt). a.done) none ∙ sym (ap (λ (a : Attempt). a.longest) none);
   none_giving = λ n. refl;
+  none_ahead = λ n. refl;
 }
 
 module _ (y : System) (s : IsSystem y) (w : World) (old : Simulates y s w) where
@@ -61,6 +67,9 @@ module _ (y : System) (s : IsSystem y) (w : World) (old : Simulates y s w) where
     -- the life that ends has kept whole steps, and leaves each thread between sections
     pub whole : may ≡ true → ends_life b.origin.source b.schedule ≡ true
     pub anew : may ≡ true → HasBegun y s v next
+    -- no boundary is under way of a hart that has stopped
+    pub fences : (n : ℕ) → n < thread_count y →
+        AreFencesCounted (boundary_fences y.plan.log) false false (old.ghosts n).rest (next.ghosts n).rest
 
   -- ---- Another life begins
 
@@ -111,6 +120,21 @@ module _ (y : System) (s : IsSystem y) (w : World) (old : Simulates y s w) where
       has_begun y s (origin y s w (started_anew program w) old (all_stop may) is_anew) (started_anew program w)
       (life y s w (started_anew program w) old (all_stop may) is_anew)
 
+  none_left : can_start w ≡ true → (n : ℕ) → n < thread_count y → (old.ghosts n).rest ≡ []
+  none_left may n below =
+      let code = s.codes.each n below in
+      let t = old.each n below in
+      elim ((all_stop may).stopped code.thread.number t.log.hart t.log.here) [
+        | inl done ↦ (subst (InPhase y w b code (old.ghosts n) t.log.hart t.graph_thread) done t.phase).0.rest
+        | inr ended ↦ (subst (InPhase y w b code (old.ghosts n) t.log.hart t.graph_thread) ended t.phase).0.goes.rest
+      ]
+
+  life_fences : (may : can_start w ≡ true) (n : ℕ) → n < thread_count y →
+      AreFencesCounted (boundary_fences y.plan.log) false false (old.ghosts n).rest ((life_now may).ghosts n).rest
+  life_fences may n below =
+      subst (λ (rest : List Effect). AreFencesCounted (boundary_fences y.plan.log) false false rest []) (sym (none_left may n below))
+      (same_fences (boundary_fences y.plan.log) false false [] refl refl)
+
   -- ---- By whether it may
 
   starts : (may : Bool) → can_start w ≡ may → StartsTo may (outcome_of program w may).0
@@ -120,6 +144,7 @@ module _ (y : System) (s : IsSystem y) (w : World) (old : Simulates y s w) where
     ends = λ none. absurd (true≢false none);
     whole = λ begins. life_whole is;
     anew = λ begins. life_anew is;
+    fences = life_fences is;
   }
   starts false is = record {
     next = old;
@@ -127,6 +152,7 @@ module _ (y : System) (s : IsSystem y) (w : World) (old : Simulates y s w) where
     ends = λ none n. same_end y b b n (record { sections = refl; between = refl });
     whole = λ begins. absurd (true≢false (sym begins));
     anew = λ begins. absurd (true≢false (sym begins));
+    fences = λ n below. same_fences (boundary_fences y.plan.log) false false (old.ghosts n).rest refl refl;
   }
 
   pub start_goes : StartsTo (can_start w) (after_event program w Start)

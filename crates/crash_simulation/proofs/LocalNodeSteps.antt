@@ -99,6 +99,7 @@ module _ {y : System} {s : IsSystem y} {w : World} {h : ℕ} (site : AtNode y s 
       elsewhere = stores_nothing y.runs.program w n n mark.at.on.hart p.forward.effect (is_next site at_mark p) nothing_seen.no_store;
       may = nothing p.forward.effect nothing_seen.no_store;
       no_point = nothing_seen.no_point;
+      no_fence = nothing_seen.no_fence;
       memory = b.config.memory;
       memory_is =
           ap (memory_in (places_of y)) (ap (λ (z : World). z.words) p.forward.world ∙ nothing_seen.same _ p.forward.contents p.forward.changes)

@@ -13,7 +13,9 @@ use Rattle.crash_simulation.proofs.Common.{fragments_see_all, cleans_on, locks_t
 use Rattle.crash_simulation.proofs.Common.{holds_none_is, AbstractRun, kept_of, now_of, is_bound, was_unlocked, Site, nothing_released, stays, MayStore}
 use Rattle.crash_simulation.proofs.Common.{nothing, goes, OnFragmentNow, abstract_next, thread_of, begins_step, AreHeld, most_ahead, System, IsSystem}
 use Rattle.crash_simulation.proofs.Common.{thread_count, flat_of, places_of, ThreadGhost, on_fragment, InPhase, ThreadInv, GoesClean, InFragment}
+use Rattle.crash_simulation.proofs.Common.{finishes_fence, boundary_fences, AreFencesCounted}
 use Rattle.crash_simulation.specs.InstructionSteps as moving
+use Rattle.crash_simulation.proofs.BoundaryFences.{begins_fences, same_fences}
 use Rattle.crash_simulation.proofs.LastReleases.{no_release, holders_stay_none, none_leaving, and_none}
 use Rattle.crash_simulation.proofs.StatesMatchSource.{resumed, kept_matches, orderly, now_orderly, now_good}
 use Rattle.crash_simulation.proofs.Boundaries.{after_lock_in, IsBeginning, BoundaryIsRecoverable, boundaries_begin}
@@ -123,6 +125,10 @@ module _ {y : System} {s : IsSystem y} {w : World} {h : ℕ} {exit : ExitPoint} 
     pub points_none : stores_point y.runs.program w (Step n) n ≡ (not (is_bound c) && is_bound c)
     points_none = (calls_count y.runs.program w n number a).1 ∙ not_twice (is_bound c)
 
+    pub fences_still : AreFencesCounted (boundary_fences y.plan.log) (finishes_fence y.runs.program w (Step n) n) (stores_point y.runs.program w (Step n) n)
+        c.rest c.rest
+    fences_still = let counts = calls_count y.runs.program w n number a in same_fences (boundary_fences y.plan.log) _ _ c.rest counts.2 counts.1
+
   -- ---- The step moves the hart alone
 
   pub record MovesHart : Type 0 where
@@ -186,6 +192,7 @@ module _ {y : System} {s : IsSystem y} {w : World} {h mutex next : ℕ} (at : At
           unlocked = λ lock gives. was_unlocked refl gives;
           points = points_none at at_lock;
           bound = λ e. e;
+          fences = fences_still at at_lock;
           nears = moving.waits mutex holder l.0 refl;
         };
         released = nothing_released (holders_stay_none y.runs.program w n (ap (λ (x : World). x.holders) still)) refl;
@@ -384,6 +391,11 @@ module _ {y : System} {s : IsSystem y} {w : World} {h mutex next : ℕ} (at : At
         points = it.counts.0 ∙ sym (ap (λ (x : Bool). not (is_bound c) && x) (ap not (boundary_stores b_next at.o.side resume asks.registers))
             ∙ and_none (not (is_bound c)));
         bound = λ was. absurd (not_bound c goes_clean.goes.committed was);
+        fences =
+            subst (λ (rest : List Effect). AreFencesCounted (boundary_fences y.plan.log) (finishes_fence y.runs.program w (Step n) n)
+            (stores_point y.runs.program w (Step n) n) rest then_ghost.rest) (sym goes_clean.goes.rest)
+            (begins_fences (boundary_fences y.plan.log) _ _ then_ghost.rest it.counts.1 it.counts.0
+            (boundaries_fence b_next at.o.side resume asks.registers) (boundary_stores b_next at.o.side resume asks.registers));
         nears = begins_step refl;
       };
       released = nothing_released (no_release y.runs.program w n (λ none. absurd (holds_none_is n v.holders mutex none

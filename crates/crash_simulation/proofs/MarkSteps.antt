@@ -8,10 +8,12 @@ use Rattle.crash_simulation.proofs.Common.{Ends, IsOnFragment, on_machine, Stage
 use Rattle.crash_simulation.proofs.Common.{now_of, is_bound, nothing_released, MayStore, goes, IsDoneBy, begins_step, is_begun, most_ahead, beyond, System}
 use Rattle.crash_simulation.proofs.Common.{IsSystem, flat_of, places_of, ThreadGhost, on_fragment, InPhase, ThreadInv, ExitInv, AnswersGuarded, IsFlushed}
 use Rattle.crash_simulation.proofs.Common.{IsInAttempt}
+use Rattle.crash_simulation.proofs.Common.{is_fence, finishes_fence, stores_point, Step, boundary_fences, AreFencesCounted}
 use Rattle.flow_graph.proofs.Public.{moved}
 use Rattle.flow_graph.specs.Actions as a
 use Rattle.crash_simulation.proofs.OwnHartSteps.{step_to, going, view, StepOf, held_still, log_going, records_going, AtNode}
 use Rattle.crash_simulation.proofs.MarksAtNodes.{AtMark, environment, stage_then, graph_step_is, Passes, old_hart, passed_soon}
+use Rattle.crash_simulation.proofs.BoundaryFences.{same_fences}
 use Rattle.crash_simulation.proofs.LocksAfterStep.{GoneOn}
 use Rattle.crash_simulation.proofs.LastReleases.{holders_stay_none, none_leaving, and_none}
 use Rattle.crash_simulation.proofs.ConfigAfterBegin.{one_longer, goes_still, done_longer, wrote}
@@ -81,6 +83,7 @@ module _ {y : System} {s : IsSystem y} {w : World} {h : ℕ} (site : AtNode y s 
     pub elsewhere : IsElsewhere y.runs.program w n n
     pub may : MayStore y b n passes.forward.effect
     pub no_point : is_point_store w.log n passes.forward.effect ≡ false
+    pub no_fence : is_fence passes.forward.effect ≡ false
     -- the step of the source
     pub memory : Memory
     pub memory_is : memory_in (places_of y) v.words ≡ memory
@@ -195,6 +198,10 @@ module _ {y : System} {s : IsSystem y} {w : World} {h : ℕ} (site : AtNode y s 
           unlocked = λ mutex gives. absurd (none-some mutex gives);
           points = o.passes.point ∙ o.no_point ∙ sym (and_none (not (is_bound c)));
           bound = λ bound. absurd (not_bound c site.core.goes.goes.committed bound);
+          fences =
+              subst (λ (rest : List Effect). AreFencesCounted (boundary_fences y.plan.log) (finishes_fence y.runs.program w (Step n) n)
+              (stores_point y.runs.program w (Step n) n) rest []) (sym site.core.goes.goes.rest)
+              (same_fences (boundary_fences y.plan.log) _ _ [] (o.passes.fence ∙ o.no_fence) (o.passes.point ∙ o.no_point));
           nears = begins_step o.is_step;
         };
         released =

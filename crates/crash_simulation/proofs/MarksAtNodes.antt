@@ -5,6 +5,7 @@ use Rattle.crash_simulation.proofs.Common.{MarkedEnvironment, seen_effects, is_s
 use Rattle.crash_simulation.proofs.Common.{IsAnswered, source_of, on_machine, Stage, effects_of, ReadsVariables, stage_after, MayDo, AreSeen, IsAtSomeMark}
 use Rattle.crash_simulation.proofs.Common.{Performing, PassesMark, Stays, left_of, few_cleans, nodes_begin, next_by, next_follows, marks_are_bounded}
 use Rattle.crash_simulation.proofs.Common.{same_there, now_of, entry_ahead, most_ahead, beyond, System, IsSystem, flat_of}
+use Rattle.crash_simulation.proofs.Common.{is_fence}
 use Rattle.flow_graph.specs.Actions as a
 use Rattle.crash_simulation.proofs.GraphAfterBegin.{takes_none, after_effect, done_is, matches_now}
 use Rattle.crash_simulation.proofs.LoadFreeEnvironment.{placed, meets_with}
@@ -28,6 +29,7 @@ pub record IsUnseen (log : Log) (n : ℕ) (effect : Effect) (later : List Effect
   pub later_is : later ≡ []
   pub no_store : is_store effect ≡ false
   pub no_point : is_point_store log n effect ≡ false
+  pub no_fence : is_fence effect ≡ false
   pub same : (old new : Contents) → Changes old effect new → new.words ≡ old.words
 
 pub unseen : (log : Log) (n : ℕ) (effect : Effect) (later effects : List Effect) → effects ≡ [] → effects ≡ effects_of effect ++ later →

@@ -5,7 +5,7 @@ pub use Rattle.crash_simulation.proofs.AccountsAfterEvents.{life_begins, life_ca
 pub use Rattle.crash_simulation.proofs.AccountsBeforeCommit.{none_more, released_by, start_counted}
 pub use Rattle.crash_simulation.proofs.DisjointStores.{next_store}
 pub use Rattle.crash_simulation.proofs.LifeAccounts.{begins_at, earlier_after, from_after, kept_after, lives_are, schedule_is}
-pub use Rattle.crash_simulation.proofs.LifeBeginnings.{first_life, first_origin, pending_free, row_of, start_simulates}
+pub use Rattle.crash_simulation.proofs.LifeBeginnings.{first_life, first_origin, life_stands, pending_free, row_of, start_simulates}
 pub use Rattle.crash_simulation.proofs.LifeStarts.{HasBegun, has_begun}
 pub use Rattle.crash_simulation.proofs.LastReleases.{and_none, at_most_one}
 pub use Rattle.crash_simulation.proofs.LockCallSteps.{fragment, lock}

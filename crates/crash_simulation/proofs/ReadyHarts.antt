@@ -12,11 +12,13 @@ use Rattle.crash_simulation.proofs.Common.{same_there, AbstractRun, now_of, is_b
 use Rattle.crash_simulation.proofs.Common.{asks, AtCoreNow, SimulatesReady, RunsReady, Simulates, AreLocked, gathering, gathered, records_of, entry_ahead}
 use Rattle.crash_simulation.proofs.Common.{IsSoon, weight, call_weight, core_ahead, System, IsSystem, thread_count, flat_of, ThreadGhost, on_fragment, at_core}
 use Rattle.crash_simulation.proofs.Common.{InPhase, ThreadInv, IsRunningThread, HasCommittedLog, InFragment}
+use Rattle.crash_simulation.proofs.Common.{boundary_fences, AreFencesCounted, same_or_other}
 use Rattle.flow_graph.specs.IdempotentCuts.{unlocks}
 use Rattle.crash_simulation.specs.InstructionSteps.{IsCalling}
 use Rattle.flow_graph.specs.Actions as a
 use Rattle.crash_simulation.specs.InstructionSteps as moving
-use Rattle.crash_simulation.proofs.LocksAfterStep.{held_alike, each_ghost}
+use Rattle.crash_simulation.proofs.LocksAfterStep.{held_alike, each_ghost, other_ghost, own_ghost}
+use Rattle.crash_simulation.proofs.BoundaryFences.{begins_fences, same_fences}
 use Rattle.crash_simulation.proofs.ThreadsOfMachines.{each_placed}
 use Rattle.crash_simulation.proofs.LoadFreeEnvironment.{bare, bare_agrees, bare_meets, bare_answers, bare_reads, placed, none_ahead, resettled}
 use Rattle.crash_simulation.proofs.Boundaries.{IsAddress, stands_in, store_is, store_ahead, BoundaryIsRecoverable, boundaries_begin}
@@ -335,6 +337,20 @@ module _ {y : System} {s : IsSystem y} {w : World} {h : ℕ} (site : Site y s w 
     says_same : (m : ℕ) → SaysSame (new m) (site.stands.ghosts m)
     says_same = grind (arith, each_ghost, says)
 
+    -- its boundary has begun
+    fences_begin : (m : ℕ) → AreFencesCounted (boundary_fences y.plan.log) false false (site.stands.ghosts m).rest (new m).rest
+    fences_begin m = elim (same_or_other m h) [
+      | inl is ↦
+          subst (λ (k : ℕ). AreFencesCounted (boundary_fences y.plan.log) false false (site.stands.ghosts k).rest (new k).rest) (sym is)
+          (coe 0 1 (i. AreFencesCounted (boundary_fences y.plan.log) false false ((sym no_rest) i) ((sym (own_ghost site.stands.ghosts h ghost)) i).rest)
+          (begins_fences (boundary_fences y.plan.log) false false ghost.rest refl refl (boundaries_fence boundary side resume registers)
+          (boundary_stores boundary side resume registers)))
+      | inr apart ↦
+          coe 0 1 (i. AreFencesCounted (boundary_fences y.plan.log) false false (site.stands.ghosts m).rest
+          ((sym (other_ghost site.stands.ghosts h ghost m apart)) i).rest)
+          (same_fences (boundary_fences y.plan.log) false false (site.stands.ghosts m).rest refl refl)
+    ]
+
     gathered_on : AreGathered w (records_of site.stands.ghosts) → AreGathered w (records_of new)
     gathered_on h0 = grind (arith, each_ghost, same_there, there)
 
@@ -368,7 +384,11 @@ module _ {y : System} {s : IsSystem y} {w : World} {h : ℕ} (site : Site y s w 
   as_it_is : IsReadyToStep site → SimulatesReady y s w h site.stands
   as_it_is ready = record {
     site = site;
-    similar = record { abstract = refl; same = λ n. record { bound = refl; leaving = refl; giving = refl; ahead = refl } };
+    similar = record {
+      abstract = refl;
+      same = λ n. record { bound = refl; leaving = refl; giving = refl; ahead = refl };
+      fences = λ n. same_fences (boundary_fences y.plan.log) false false (site.stands.ghosts n).rest refl refl;
+    };
     ready = ready;
   }
 
@@ -385,7 +405,7 @@ module _ {y : System} {s : IsSystem y} {w : World} {h : ℕ} (site : Site y s w 
     | inl chosen ↦
         let k = (all site a chosen i h site.below).2 refl in
         let anew : Site y s w h = record { stands = begun site a chosen i; below = site.below } in
-        record { site = anew; similar = record { abstract = refl; same = says_same site a chosen i }; ready = keeps_at anew k.0 k.1 }
+        record { site = anew; similar = record { abstract = refl; same = says_same site a chosen i; fences = fences_begin site a chosen i }; ready = keeps_at anew k.0 k.1 }
     | inr plain ↦ as_it_is (plain_ready site a plain)
   ]
 

@@ -9,6 +9,7 @@ use Rattle.crash_simulation.proofs.Common.{memory_in, since_stays, memory_stored
 use Rattle.crash_simulation.proofs.Common.{variables_are_apart, stores_to_variable, is_clean, kind_at, IsAnswered, source_of, MayDo, cleans_of, MarksPass}
 use Rattle.crash_simulation.proofs.Common.{same_or_other, AbstractRun, kept_of, now_of, attempts_of, MayStore, element, System, IsSystem, flat_of, shapes_of}
 use Rattle.crash_simulation.proofs.Common.{places_of, ThreadGhost, is_ahead, IsFlushed, IsComing}
+use Rattle.crash_simulation.proofs.Common.{is_fence}
 use Rattle.region_attempts.specs.PendingCleans.{Cleans}
 use Rattle.ido_base.specs.Words as words
 use Rattle.rv64_isa.specs.Rows as r
@@ -184,6 +185,7 @@ module _ {y : System} {s : IsSystem y} {w : World} {h : ℕ} (site : AtNode y s 
           (subst (IsNext y.runs.program w n mark.at.on.hart) effect_is (is_next site at_mark p)) in_variables;
       may = may;
       no_point = no_point;
+      no_fence = ap is_fence effect_is;
       memory = memory;
       memory_is = refl;
       happened = happened;

@@ -11,6 +11,7 @@ use Rattle.crash_simulation.proofs.Common.{boundaries_fence, steps_keep, fences_
 use Rattle.crash_simulation.proofs.Common.{fragments_see_all, past_unlock, unlocks_enter, AbstractRun, now_of, is_bound, nothing_released, MayStore, nothing}
 use Rattle.crash_simulation.proofs.Common.{goes, abstract_next, begins_step, begins_unlock, most_ahead, System, IsSystem, flat_of, places_of, ThreadGhost}
 use Rattle.crash_simulation.proofs.Common.{on_fragment, InPhase, ThreadInv, IsFlushed}
+use Rattle.crash_simulation.proofs.Common.{is_fence, boundary_fences, AreFencesCounted, boundary_stores}
 use Rattle.flow_graph.proofs.Public.{moved}
 use Rattle.flow_graph.specs.Actions as a
 use Rattle.crash_simulation.proofs.StatesMatchSource.{resumed, now_orderly, now_good}
@@ -28,7 +29,8 @@ use Rattle.crash_simulation.proofs.NodeEffects.{source_steps, unlocks_it, unlock
 use Rattle.crash_simulation.proofs.ConfigAfterBegin.{alone_unlocks}
 use Rattle.crash_simulation.proofs.UncommittedSteps.{leads_on}
 use Rattle.crash_simulation.proofs.PendingFlushes.{Passage, stored_same, still_reached, fence_settles}
-use Rattle.crash_simulation.proofs.FragmentSteps.{Made, no_effect, cleans_first, bounds_first, made_by, words_same, log_may, log_memory}
+use Rattle.crash_simulation.proofs.FragmentSteps.{Made, no_effect, no_point, cleans_first, bounds_first, made_by, words_same, log_may, log_memory}
+use Rattle.crash_simulation.proofs.BoundaryFences.{begins_fences, joined_fences, next_fences}
 use Rattle.crash_simulation.proofs.WriteBackSteps.{mark_step, not_bound}
 
 -- a node that gives a lock back
@@ -158,6 +160,10 @@ module _ {y : System} {s : IsSystem y} {w : World} {h : ℕ} (site : AtNode y s 
     abbrev next_is : IsNext y.runs.program w n hart p.forward.effect
     next_is = is_next site at_mark p
 
+    -- what is counted of it, where this is ahead of the boundary then
+    abbrev FencesCounted : List Effect → Type 0
+    FencesCounted rest = AreFencesCounted (boundary_fences y.plan.log) (is_fence p.forward.effect) (is_point_store w.log n p.forward.effect) [] rest
+
     -- what the first instruction is to the boundary
     record IsFirst : Type 0 where
       log : LogInv n c.new new_record v p.later
@@ -165,6 +171,7 @@ module _ {y : System} {s : IsSystem y} {w : World} {h : ℕ} (site : AtNode y s 
       memory : memory_in (places_of y) v.words ≡ memory_in (places_of y) w.words
       point : is_point_store w.log n p.forward.effect ≡ not (list_any is_store p.later)
       fenced : fences_ahead p.later < 2 → p.forward.effect ≡ Fences
+      fences : FencesCounted p.later
 
     same_words : v.words ≡ p.forward.contents.words
     same_words = ap (λ (z : World). z.words) p.forward.world
@@ -179,6 +186,9 @@ module _ {y : System} {s : IsSystem y} {w : World} {h : ℕ} (site : AtNode y s 
 
     none_more : 0 + fences_ahead p.later ≡ fences_ahead p.later
     none_more = omega arith
+
+    some_stores : list_any is_store effects_all ≡ true
+    some_stores = boundary_stores boundary site.core.side resume site.core.registers
 
     -- it makes the first effect of the boundary
     module _ (rest : effects_all ≡ p.forward.effect ∷ p.later) where
@@ -206,6 +216,13 @@ module _ {y : System} {s : IsSystem y} {w : World} {h : ℕ} (site : AtNode y s 
             ∙ log_memory y s w n p.forward.effect hart.queue p.forward.contents p.forward.changes inside.0;
         point = point;
         fenced = fenced;
+        fences =
+            joined_fences (boundary_fences y.plan.log) (is_fence p.forward.effect) (is_point_store w.log n p.forward.effect) [] effects_all p.later
+            (begins_fences (boundary_fences y.plan.log) false false effects_all refl refl two_fences some_stores)
+            (subst (λ (es : List Effect). AreFencesCounted (boundary_fences y.plan.log) (is_fence p.forward.effect)
+            (is_point_store w.log n p.forward.effect) es p.later) (sym rest)
+            (next_fences (boundary_fences y.plan.log) _ _ p.forward.effect p.later refl (λ stores. point)
+            (λ none. no_point w.log n p.forward.effect none)));
       }
 
       point_kept : (f : Effect) → p.forward.effect ≡ f → is_store f ≡ false → is_point_store w.log n p.forward.effect ≡ not (list_any is_store p.later)
@@ -222,7 +239,7 @@ module _ {y : System} {s : IsSystem y} {w : World} {h : ℕ} (site : AtNode y s 
       first_of (PassesFence is) = first_by (point_kept _ is refl) (λ few. is)
 
     by_made : Made [] effects_all p.later p.forward.effect → IsFirst
-    by_made (no_effect none same) = record {
+    by_made (no_effect none unfenced same) = record {
       log = steps_keep y.runs.program n n c.new new_record w p.later site.hart.stands.machine.sound
           (subst (λ (rest : List Effect). LogInv n c.new new_record w rest) (sym same) log_first)
           (stores_nothing y.runs.program w n n hart p.forward.effect next_is none);
@@ -231,6 +248,9 @@ module _ {y : System} {s : IsSystem y} {w : World} {h : ℕ} (site : AtNode y s 
           p.forward.contents none p.forward.changes);
       point = stores_ahead none (ap (list_any is_store) (sym same));
       fenced = λ few. absurd (omega (arith, few, two_fences, ap fences_ahead same));
+      fences =
+          begins_fences (boundary_fences y.plan.log) _ _ p.later unfenced (no_point w.log n p.forward.effect none) (ap fences_ahead same ∙ two_fences)
+          (ap (list_any is_store) same ∙ some_stores);
     }
     by_made (cleans_first address others is cleans later) = absurd (not_done (Cleans address) others cleans)
     by_made (bounds_first none rest) = first_of rest (inside rest).0
@@ -317,6 +337,9 @@ module _ {y : System} {s : IsSystem y} {w : World} {h : ℕ} (site : AtNode y s 
             p.point ∙ first.point ∙ ap (λ (q : Bool). not q && is_bound new)
             (sym (ap (λ (q : Bool). is_bound (record c { committed = q })) site.core.goes.goes.committed));
         bound = λ bound. absurd (not_bound c site.core.goes.goes.committed bound);
+        fences =
+            coe 0 1 (i. AreFencesCounted (boundary_fences y.plan.log) ((sym p.fence) i) ((sym p.point) i) ((sym site.core.goes.goes.rest) i) p.later)
+            first.fences;
         nears = begins_step refl;
       };
       released = nothing_released (holders_stay_none y.runs.program w n still_held) (sym (none_leaving c site.core.goes.goes.giving));

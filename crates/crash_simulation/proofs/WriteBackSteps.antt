@@ -4,8 +4,10 @@ use Rattle.crash_simulation.proofs.Common.{⊎_elim, nat_tests, none-some, AreEn
 use Rattle.crash_simulation.proofs.Common.{persists, memory_in, memory_persisted, since_is_persisted, IsNext, is_store, stores_nothing, one_effect}
 use Rattle.crash_simulation.proofs.Common.{drains_reach, MarksPass, stays_are_at_core, AbstractRun, is_bound, nothing_released, is_nearer, MayStore, nothing}
 use Rattle.crash_simulation.proofs.Common.{goes, IsSoon, core_ahead, System, IsSystem, places_of, ThreadGhost, InPhase, ThreadInv, IsInAttempt}
+use Rattle.crash_simulation.proofs.Common.{Effect, finishes_fence, stores_point, Step, boundary_fences, AreFencesCounted}
 use Rattle.ido_base.specs.Growth.{ArePersisted}
 use Rattle.recovery_semantics.specs.ElementHistories as histories
+use Rattle.crash_simulation.proofs.BoundaryFences.{same_fences}
 use Rattle.crash_simulation.proofs.LastReleases.{holders_stay_none, none_leaving, and_none}
 use Rattle.crash_simulation.proofs.PendingFlushes.{Passage, run_after, still_reached, stored_same}
 use Rattle.crash_simulation.proofs.ThreadViews.{none_clean}
@@ -97,6 +99,10 @@ module _ {y : System} {s : IsSystem y} {w : World} {h : ℕ} (site : AtNode y s 
       unlocked = λ mutex gives. absurd (none-some mutex gives);
       points = stays.counts.0 ∙ sym (and_none (not (is_bound c)));
       bound = λ bound. absurd (not_bound c goes_here.committed bound);
+      fences =
+          subst (λ (rest : List Effect). AreFencesCounted (boundary_fences y.plan.log) (finishes_fence y.runs.program w (Step n) n)
+          (stores_point y.runs.program w (Step n) n) rest []) (sym goes_here.rest)
+          (same_fences (boundary_fences y.plan.log) _ _ [] stays.counts.1 stays.counts.0);
       nears = is_nearer nearer.0;
     };
     released = nothing_released (holders_stay_none y.runs.program w n holders_stay) (sym (none_leaving c goes_here.giving));

@@ -15,7 +15,7 @@ use Rattle.source_machine.specs.Mutexes.{unlocks}
 use Rattle.machine_model.specs.declared.phase.Phase.TheVariants.{Run, Done, Ended}
 use Rattle.rv64_isa.specs.Rows.{Effect, Stores}
 use Rattle.machine_model.specs.Machine.{Hart, World, after_event, happens}
-use Rattle.machine_model.specs.Schedule.{passes_mark, stores_point, releases_last}
+use Rattle.machine_model.specs.Schedule.{passes_mark, stores_point, finishes_fence, releases_last}
 use Rattle.flow_graph.specs.Nodes.{Lock, Node}
 use Rattle.flow_graph.specs.Liveness.{NodeAt}
 use Rattle.hart_runs.specs.Calls.{IsInPhase}
@@ -30,6 +30,7 @@ use Rattle.log_states.specs.Stages.{is_store}
 use Rattle.log_states.specs.Machines.{IsNext}
 use Rattle.crash_simulation.specs.Systems.{System, IsSystem, flat_of, shapes_of, places_of, thread_count}
 use Rattle.crash_simulation.specs.AbstractRuns.{AbstractRun}
+use Rattle.crash_simulation.specs.BoundaryFences.{boundary_fences, AreFencesCounted}
 use Rattle.crash_simulation.specs.ThreadGhosts.{ThreadGhost, InFragment, AtCore, ThreadInv}
 use Rattle.crash_simulation.specs.SimulationRelation.{AreLocked, SimulatesBut, Simulates, anybody}
 
@@ -98,12 +99,15 @@ pub data Nears (y : System) (w : World) (h : ℕ) (begun : Bool) (old new : ℕ)
   halts : (hart : Hart) → slice_get (after_event y.runs.program w (Step h)).harts h ≡ Some hart → (hart.phase ≡ Done) ⊎ (hart.phase ≡ Ended) →
       Nears y w h begun old new
 
--- the step passes a mark exactly where a step of the source is begun, and stores the thread's point exactly where the steps become bound to that
+-- the step passes a mark exactly where a step of the source is begun, and stores the thread's point exactly where the steps become bound to that; what it
+-- finishes of fences its boundary has no more ahead
 pub record IsCounted (y : System) (w : World) (b : AbstractRun y) (h : ℕ) (begun : Bool) (old new : ThreadGhost) : Type 0 where
   pub marks : passes_mark y.runs.marks y.runs.program w h ≡ begun
   pub unlocked : (mutex : ℕ) → new.giving ≡ Some mutex → IsUnlocked (now b.config) h begun old.giving mutex
   pub points : stores_point y.runs.program w (Step h) h ≡ (not (is_bound old) && is_bound new)
   pub bound : is_bound old ≡ true → is_bound new ≡ true
+  pub fences : AreFencesCounted (boundary_fences y.plan.log) (finishes_fence y.runs.program w (Step h) h) (stores_point y.runs.program w (Step h) h)
+      old.rest new.rest
   pub nears : Nears y w h begun old.before_mark new.before_mark
 
 -- ---- What it releases
@@ -171,6 +175,7 @@ pub record SaysSame (new old : ThreadGhost) : Type 0 where
 pub record AreSimilar (y : System) (s : IsSystem y) {w v : World} (old : Simulates y s w) (new : Simulates y s v) : Type 0 where
   pub abstract : new.abstract ≡ old.abstract
   pub same : (n : ℕ) → SaysSame (new.ghosts n) (old.ghosts n)
+  pub fences : (n : ℕ) → AreFencesCounted (boundary_fences y.plan.log) false false (old.ghosts n).rest (new.ghosts n).rest
 
 -- the machine simulates the same abstract run, and the hart is ready
 pub record SimulatesReady (y : System) (s : IsSystem y) (w : World) (h : ℕ) (old : Simulates y s w) : Type 0 where

@@ -3,6 +3,7 @@ pub mod AbstractRuns
 pub mod StepsToMark
 pub mod ThreadGhosts
 pub mod SimulationRelation
+pub mod BoundaryFences
 pub mod InstructionSteps
 pub mod ReleasedSections
 pub mod AccountRelation

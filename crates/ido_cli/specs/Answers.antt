@@ -35,7 +35,7 @@ use Rattle.ido_cli.specs.Images.{IsImageAfter}
 use Rattle.ido_cli.specs.Inputs.{source_of, rest_of}
 use Rattle.ido_cli.specs.ObjectListing.{listing}
 use Rattle.ido_cli.specs.Loads.{IsSummaryOf}
-use Rattle.ido_cli.specs.Plays.{IsRunBy, IsTranslationOf, ScriptAnswer, beginning}
+use Rattle.ido_cli.specs.Plays.{IsPlayed, IsRunBy, IsTranslationOf, ScriptAnswer, beginning}
 use Rattle.ido_cli.specs.Recoveries.{IsRecovery}
 use Rattle.ido_cli.specs.Refusals.{IsRefusedAt, code_of, fault_code, fault_place, image_line, line_after, line_at_byte}
 use Rattle.ido_cli.specs.Refusals.{object_fault_code, object_fault_place, script_fault_code, script_fault_place}
@@ -53,7 +53,7 @@ IsSourcePastLimits input = (MOST_INPUT_BYTES < length input) ⊎ (MOST_SOURCE_BY
 abbrev pub IsPastLimits : Command → (input : List ℕ) → Type 0
 IsPastLimits command.Compile input = MOST_SOURCE_BYTES < length input
 IsPastLimits (command.Regions least) input = MOST_SOURCE_BYTES < length input
-IsPastLimits command.Play input = IsSourcePastLimits input
+IsPastLimits (command.Play fences) input = IsSourcePastLimits input
 IsPastLimits command.Source input = IsSourcePastLimits input
 IsPastLimits command.List input = MOST_INPUT_BYTES < length input
 IsPastLimits command.Image input = IsSourcePastLimits input
@@ -130,9 +130,9 @@ pub data ScriptedAnswer (Says : Translation → List Event → (status : ℕ) �
       ScriptAnswer c (Says c) (record { lines = lines; input = input; begins = rest_begins input }) status output →
       ScriptedAnswer Says input status output
 
--- the report of the script's run
-abbrev pub PlayAnswer : (input : List ℕ) → (status : ℕ) → (output : List ℕ) → Type 0
-PlayAnswer input status output = ScriptedAnswer IsRunBy input status output
+-- the report of the script's run, and the fences of each hart, where that is asked
+abbrev pub PlayAnswer : (fences : Bool) → (input : List ℕ) → (status : ℕ) → (output : List ℕ) → Type 0
+PlayAnswer fences input status output = ScriptedAnswer (IsPlayed fences) input status output
 
 -- the bytes of the image that a crash after the run would leave: it tells all lives
 abbrev pub ImageAnswer : (input : List ℕ) → (status : ℕ) → (output : List ℕ) → Type 0
@@ -224,7 +224,7 @@ pub data ListAnswer (input : List ℕ) (status : ℕ) (output : List ℕ) : Type
 abbrev pub CommandAnswer : Command → (input : List ℕ) → (status : ℕ) → (output : List ℕ) → Type 0
 CommandAnswer command.Compile input status output = CompileAnswer input status output
 CommandAnswer (command.Regions least) input status output = RegionsAnswer least input status output
-CommandAnswer command.Play input status output = PlayAnswer input status output
+CommandAnswer (command.Play fences) input status output = PlayAnswer fences input status output
 CommandAnswer command.Source input status output = SourceAnswer input status output
 CommandAnswer command.List input status output = ListAnswer input status output
 CommandAnswer command.Image input status output = ImageAnswer input status output

@@ -53,8 +53,15 @@ evict_rule = record (new_rule (codes "evict")) { long = Some (codes "evict"); pa
 abbrev pub flag_rule : (name : List ℕ) → Rule
 flag_rule name = record (new_rule name) { long = Some name; action = Some SetTrue }
 
+-- a command that takes a flag
+abbrev pub flag_shape : (name flag : List ℕ) → Shape
+flag_shape name flag = record (new_shape name) { rules = flag_rule flag ∷ [] }
+
 abbrev pub regions_shape : Shape
-regions_shape = record (new_shape (codes "regions")) { rules = flag_rule (codes "least") ∷ [] }
+regions_shape = flag_shape (codes "regions") (codes "least")
+
+abbrev pub play_shape : Shape
+play_shape = flag_shape (codes "play") (codes "fences")
 
 -- a command that takes a number of turns
 abbrev pub turns_shape : (name : List ℕ) → Shape
@@ -78,13 +85,13 @@ load_shape = record (new_shape (codes "load")) {
   rules = number_rule (codes "N") (parser.Unsigned 1 most_loaded_rounds) ∷ number_rule (codes "SEED") (parser.Unsigned 0 (2 ^ 32 - 1)) ∷ [];
 }
 
--- one of the commands is required; the first seven, but for `regions`, and the last take no word of their own
+-- one of the commands is required; the first seven, but for `regions` and `play`, and the last take no word of their own
 abbrev pub table : App
 table =
     let top = record (new_shape (codes "ido")) { subcommand_required = true } in
     let one = with_subcommand (record { top = top; subs = [] }) (new_shape (codes "compile")) in
     let two = with_subcommand (with_subcommand one (new_shape (codes "list"))) regions_shape in
-    let three = with_subcommand (with_subcommand two (new_shape (codes "play"))) (new_shape (codes "source")) in
+    let three = with_subcommand (with_subcommand two play_shape) (new_shape (codes "source")) in
     let order = with_subcommand (with_subcommand three (new_shape (codes "image"))) (new_shape (codes "order")) in
     let four = with_subcommand (with_subcommand order (turns_shape (codes "recover"))) (turns_shape (codes "upgrade")) in
     let five = with_subcommand (with_subcommand four make_shape) seeded_shape in
@@ -126,6 +133,9 @@ crashes_in rows = crashes_of (unwrap_or (all_of (codes "CRASH") rows) [])
 abbrev pub regions_in : List Row → c.Command
 regions_in rows = command.Regions (is_set (codes "least") rows)
 
+abbrev pub play_in : List Row → c.Command
+play_in rows = command.Play (is_set (codes "fences") rows)
+
 abbrev pub recover_in : List Row → Option c.Command
 recover_in rows = option_map (λ turns. command.Recover turns) (number_in 32 (codes "TURNS") rows)
 
@@ -156,7 +166,7 @@ command_by_name name rows =
     if is_named (codes "compile") name then Some command.Compile
     else if is_named (codes "list") name then Some command.List
     else if is_named (codes "regions") name then Some (regions_in rows)
-    else if is_named (codes "play") name then Some command.Play
+    else if is_named (codes "play") name then Some (play_in rows)
     else if is_named (codes "source") name then Some command.Source
     else if is_named (codes "image") name then Some command.Image
     else if is_named (codes "order") name then Some command.Order

@@ -34,7 +34,7 @@ IsPlain None = Unit {0}
 IsPlain (Some command.Compile) = ⊥
 IsPlain (Some command.List) = Unit {0}
 IsPlain (Some (command.Regions least)) = ⊥
-IsPlain (Some command.Play) = ⊥
+IsPlain (Some (command.Play fences)) = ⊥
 IsPlain (Some command.Source) = Unit {0}
 IsPlain (Some command.Image) = ⊥
 IsPlain (Some command.Order) = Unit {0}
@@ -52,7 +52,7 @@ TakesScript None = ⊥
 TakesScript (Some command.Compile) = ⊥
 TakesScript (Some command.List) = ⊥
 TakesScript (Some (command.Regions least)) = ⊥
-TakesScript (Some command.Play) = Unit {0}
+TakesScript (Some (command.Play fences)) = Unit {0}
 TakesScript (Some command.Source) = ⊥
 TakesScript (Some command.Image) = Unit {0}
 TakesScript (Some command.Order) = ⊥
@@ -106,4 +106,4 @@ JournalsArePlayed = (source : List ℕ) (events : List Event) (flat : Flat) (sta
     IsAcceptedAs command_log source flat →
     length events ≤ MOST_EVENTS → All (IsValidNow (length flat.threads) (IsEviction command_log (length flat.threads)) true) events →
     ((c : Translation) → IsTranslationOf flat c → MayStart living (beginning c) events) →
-    PlayAnswer (journal_text source events) status output → (c : Translation) × IsTranslationOf flat c × IsRunBy c events status output
+    PlayAnswer false (journal_text source events) status output → (c : Translation) × IsTranslationOf flat c × IsRunBy c events status output

@@ -1,6 +1,7 @@
 -- What is said of a run of a compiled source by a script.
-use Rattle.std.specs.Prelude.{◌≡◌, ℕ, ◌+◌, ◌≤◌, List, [], length, true, Some, None}
+use Rattle.std.specs.Prelude.{◌≡◌, ℕ, ◌+◌, ◌≤◌, List, [], ◌++◌, length, map, Bool, true, false, Some, None, ◌==◌, if◌then◌else◌}
 use Rattle.machine_events.specs.declared.event.Event.{Event}
+use Rattle.machine_events.specs.Cores.{finished_fences}
 use Rattle.ido_base.specs.declared.limits.TheConstants.{MOST_EVENTS}
 use Rattle.c_tree.specs.Flats as f
 use Rattle.c_tree.specs.Source.{start, is_between}
@@ -8,6 +9,7 @@ use Rattle.source_machine.specs.Lives.{after_lives, runs_lives}
 use Rattle.machine_model.specs.declared.object.Object.{Object}
 use Rattle.rv64_isa.specs.declared.object.Marks.{Marks}
 use Rattle.machine_model.specs.Executables.{first_world}
+use Rattle.machine_model.specs.Machine.{numbers_from}
 use Rattle.machine_model.specs.Schedule.{only_life, schedules}
 use Rattle.flow_graph.specs.declared.cuts.Cuts.{Cuts}
 use Rattle.flat_compile.specs.TranslatedForms.{IsTranslated}
@@ -15,7 +17,7 @@ use Rattle.compiler_correctness.specs.Translations.{Translation, world, steps, t
 use Rattle.compiler_correctness.specs.Compilation.{AreSectionsKept}
 use Rattle.compiler_correctness.specs.Compilations.{IsCompilation}
 use Rattle.run_scripts.specs.Plays.{PlayFault, play_fault, script_events}
-use Rattle.run_scripts.specs.Reports.{report}
+use Rattle.run_scripts.specs.Reports.{report, fence_lines}
 use Rattle.run_scripts.specs.Scripts.{Line}
 use Rattle.run_tracker.specs.ObjectLives.{LifeConfig, living}
 use Rattle.ido_cli.specs.Refusals.{IsRefusedAt, play_fault_code, play_fault_place}
@@ -59,6 +61,21 @@ pub record IsRunBy (c : Translation) (events : List Event) (status : ℕ) (outpu
   pub runs : runs_lives c.flat (start c.flat) (schedules (steps c events)) ≡ true
   pub settled : status ≡ 0 → IsSourceRun c.flat (schedules (steps c events)) output
   pub sections : AreSectionsKept c events
+
+-- how many fences each hart has finished by the events, in all lives: before crashes, in recoveries, and in sections that were lost
+abbrev pub fences_by : Translation → List Event → List ℕ
+fences_by c events = map (finished_fences living (beginning c) events) (numbers_from 0 (length c.runs.program))
+
+-- The report, and after it the fences of each thread's hart, where each hart is settled: where one isn't, the report is all.
+pub record IsFencedRun (c : Translation) (events : List Event) (status : ℕ) (output : List ℕ) : Type 0 where
+  pub report : List ℕ
+  pub run : IsRunBy c events status report
+  pub output_is : output ≡ report ++ (if status == 0 then fence_lines (fences_by c events) else [])
+
+-- what is said of a run, with its fences or without
+abbrev pub IsPlayed : (fences : Bool) → Translation → List Event → (status : ℕ) → (output : List ℕ) → Type 0
+IsPlayed false c events status output = IsRunBy c events status output
+IsPlayed true c events status output = IsFencedRun c events status output
 
 -- a script that begins at a place of an input
 pub record PlacedScript : Type 0 where

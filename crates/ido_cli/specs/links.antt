@@ -7,3 +7,4 @@ pub mod CrashPoints
 pub mod PlayedLives
 pub mod BegunImages
 pub mod RecoveredLives
+pub mod FencedReports

@@ -148,7 +148,7 @@ pub fn answer(alloc: Global, command: Command, input: &[u8]) -> Result<Said, Out
         Command::Compile => product_input(alloc, Product::Object, input),
         Command::List => list_answer(alloc, input),
         Command::Regions { least } => product_input(alloc, Product::Regions { least }, input),
-        Command::Play => scripted_input(alloc, Asked::Report, input),
+        Command::Play { fences } => scripted_input(alloc, Asked::Report { fences }, input),
         Command::Source => source_input(alloc, input),
         Command::Image => scripted_input(alloc, Asked::Image, input),
         Command::Order => product_input(alloc, Product::Order, input),
@@ -200,7 +200,7 @@ pub fn threaded_answer<R: Threads + Wait + Sync, G: Gate + Sync>(
         Command::Compile
         | Command::List
         | Command::Regions { .. }
-        | Command::Play
+        | Command::Play { .. }
         | Command::Source
         | Command::Image
         | Command::Order

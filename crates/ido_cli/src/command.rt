@@ -5,10 +5,10 @@ ghost use Rattle.clap.specs.Matches.{found_of};
 ghost use Rattle.clap.specs.Simple.{new_shape};
 ghost use Rattle.clap.specs.Walk.{rows_of};
 ghost use Rattle.clap.specs.Words.{app_of, rule_of, with_subcommand};
-ghost use Rattle.ido_cli.specs.Commands.{command_by_name, command_of, crash_rule, crashes_in, crashes_of, evict_rule, flag_rule, is_set};
+ghost use Rattle.ido_cli.specs.Commands.{command_by_name, command_of, crash_rule, crashes_in, crashes_of, evict_rule, flag_rule, flag_shape, is_set};
 ghost use Rattle.ido_cli.specs.Commands.{live_in, live_shape, load_in, load_shape, make_in, make_shape, most_crash, most_loaded_rounds};
-ghost use Rattle.ido_cli.specs.Commands.{most_rounds, most_turns, needs_threads, number_in, number_of, number_rule, numbers_of, reads_input};
-ghost use Rattle.ido_cli.specs.Commands.{recover_in, regions_in, regions_shape, seeded_in, seeded_shape, table, turns_shape, upgrade_in};
+ghost use Rattle.ido_cli.specs.Commands.{most_rounds, most_turns, needs_threads, number_in, number_of, number_rule, numbers_of, play_in, reads_input};
+ghost use Rattle.ido_cli.specs.Commands.{recover_in, regions_in, seeded_in, seeded_shape, table, turns_shape, upgrade_in};
 
 use crate::crashes::Crashes;
 use clap::builder::ValueParser;
@@ -31,8 +31,10 @@ pub enum Command {
     Regions {
         least: bool,
     },
-    /// Runs a compiled source by a script.
-    Play,
+    /// Runs a compiled source by a script, and tells how many fences each hart has finished, where that is asked.
+    Play {
+        fences: bool,
+    },
     /// Runs a source by itself, by a schedule.
     Source,
     /// Writes what a crash after a script would leave.
@@ -188,15 +190,17 @@ fn flag<'a>(alloc: Global, name: &'a str) -> Arg<'a>
     Arg::new(alloc, name).long(name).action(ArgAction::SetTrue)
 }
 
-/// A table with the command `regions` more, which takes a flag.
-fn with_regions<'a>(
+/// A table with one command more, which takes a flag.
+fn with_flag<'a>(
     alloc: Global,
     table: clap::Command<'a>,
+    name: &'a str,
+    word: &'a str,
 ) -> Result<clap::Command<'a>, AllocError>
-    ensures { IfOk result (λ c. app_of c ≡ with_subcommand (app_of table.entry) regions_shape) }
+    ensures { IfOk result (λ c. app_of c ≡ with_subcommand (app_of table.entry) (flag_shape name.entry.now word.entry.now)) }
 {
-    let least = flag(alloc, "least");
-    table.subcommand(clap::Command::new(alloc, "regions").arg(least)?)
+    let flag = flag(alloc, word);
+    table.subcommand(clap::Command::new(alloc, name).arg(flag)?)
 }
 
 /// A table with one command more, which takes a number of turns.
@@ -268,8 +272,8 @@ fn table<'a>(alloc: Global) -> Result<clap::Command<'a>, AllocError>
     let empty = clap::Command::new(alloc, "ido").subcommand_required(true);
     let one = with_command(alloc, empty, "compile")?;
     let two = with_command(alloc, one, "list")?;
-    let three = with_regions(alloc, two)?;
-    let four = with_command(alloc, three, "play")?;
+    let three = with_flag(alloc, two, "regions", "least")?;
+    let four = with_flag(alloc, three, "play", "fences")?;
     let five = with_command(alloc, four, "source")?;
     let six = with_command(alloc, five, "image")?;
     let seven = with_command(alloc, six, "order")?;
@@ -365,6 +369,14 @@ fn regions_in(matches: &ArgMatches) -> Command
     Command::Regions { least }
 }
 
+/// The command `play` by its words.
+fn play_in(matches: &ArgMatches) -> Command
+    ensures { result ≡ play_in (rows_of (found_of matches.now)) }
+{
+    let fences = is_set(matches, "fences");
+    Command::Play { fences }
+}
+
 /// The command `recover` by its words.
 fn recover_in(matches: &ArgMatches) -> Option<Command>
     ensures { result ≡ recover_in (rows_of (found_of matches.now)) }
@@ -451,7 +463,7 @@ fn command_by_name(
         "compile" => Ok(Some(Command::Compile)),
         "list" => Ok(Some(Command::List)),
         "regions" => Ok(Some(regions_in(matches))),
-        "play" => Ok(Some(Command::Play)),
+        "play" => Ok(Some(play_in(matches))),
         "source" => Ok(Some(Command::Source)),
         "image" => Ok(Some(Command::Image)),
         "order" => Ok(Some(Command::Order)),

@@ -1,9 +1,13 @@
 //! The commands `play` and `image`: a run of the compiled source by a script.
-ghost use Rattle.std.specs.Prelude.{◌≡◌, ◌+◌, ◌≤◌, All, length, map, IfOk, IfSome, IsSome};
+ghost use Rattle.std.specs.Prelude.{◌≡◌, ◌+◌, ◌≤◌, ◌++◌, All, length, map, IfOk, IfSome, IsSome};
 ghost use Rattle.ido_base.specs.declared.limits.TheConstants.{MOST_EVENTS, MOST_INPUT_BYTES, MOST_SOURCE_BYTES};
 ghost use Rattle.c_tree.specs.Flats.{flat_of};
+ghost use Rattle.c_tree.specs.WellFormed.{shape_of};
 ghost use Rattle.flat_compile.specs.TranslatedForms.{IsTranslated};
 ghost use Rattle.machine_model.specs.Machine.{IsEviction};
+ghost use Rattle.machine_model.specs.Schedule.{schedules};
+ghost use Rattle.memory_layout.specs.Variables.{HaveRoom};
+ghost use Rattle.run_scripts.specs.Reports.{fence_lines};
 ghost use Rattle.run_scripts.specs.Scripts.{IsDoable};
 ghost use Rattle.run_scripts.specs.links.ScriptViews as scripts;
 ghost use Rattle.compiler_correctness.specs.Compilations.{IsCompilation};
@@ -12,18 +16,24 @@ ghost use Rattle.ido_cli.specs.Answers.{ScriptedAnswer};
 ghost use Rattle.ido_cli.specs.Inputs.{source_of, rest_of};
 ghost use Rattle.ido_cli.specs.Plays.{ScriptAnswer};
 ghost use Rattle.ido_cli.specs.Refusals.{IsRefusedAt, play_fault_code, play_fault_place, script_fault_code, script_fault_place};
+ghost use Rattle.ido_cli.specs.Reports.{machine_state};
+ghost use Rattle.ido_cli.specs.links.CountedSections.{CountsSections};
+ghost use Rattle.ido_cli.specs.links.FencedReports.{IsReportWith, fences_in};
 ghost use Rattle.ido_cli.specs.links.PlayedLives.{HasPlayed};
 ghost use Rattle.ido_cli.specs.links.RunRequests.{Says};
+ghost use Rattle.run_tracker.specs.ObjectLives.{steps_in, world_of};
 
 use crate::image::image;
 use crate::refusal::{refused_at, source_refused};
 use crate::report::say;
 use crate::said::Said;
+use c_tree::flat::Flat;
 use ido_base::limits::MOST_EVENTS;
 use ido_base::memory::OutOfMemory;
 use ido_compile::{Compiled, compile};
 use run_scripts::bounds::script_bound;
 use run_scripts::play::{PlayError, play};
+use run_scripts::report::put_fences;
 use run_scripts::script::{Script, ScriptError, ScriptFault, read_script};
 use run_tracker::life::Life;
 use std::alloc::Global;
@@ -31,8 +41,8 @@ use std::alloc::Global;
 /// What is asked of the run of a script.
 #[derive(Clone, Copy)]
 pub enum Asked {
-    /// The report of the run.
-    Report,
+    /// The report of the run, and how many fences each hart has finished, where that is asked.
+    Report { fences: bool },
     /// The image that a crash after the run would leave.
     Image,
 }
@@ -56,6 +66,48 @@ fn play_refused(
     refused_at(alloc, 6, code, input, begins + u64::from(place.0))
 }
 
+/// How many fences each hart of a life has finished.
+fn finished(alloc: Global, life: &Life) -> Result<Vec<u64>, OutOfMemory>
+    ensures { IfOk result (λ fences. fences.items ≡ fences_in life.now) }
+{
+    let mut fences = Vec::new(alloc);
+    for hart in 0..life.harts() {
+        fences.push(life.fences(hart))?;
+    }
+    Ok(fences)
+}
+
+/// What is said, with the fences of each hart behind it.
+fn with_fences(alloc: Global, life: &Life, said: Said) -> Result<Said, OutOfMemory>
+    ensures { IfOk result (λ all. (all.status ≡ said.status) × (all.output.items ≡ said.output.items ++ fence_lines (fences_in life.now))) }
+{
+    let fences = finished(alloc, life)?;
+    let Said { status, mut output } = said;
+    put_fences(alloc, &mut output, &fences)?;
+    Ok(Said { status, output })
+}
+
+/// What is said of a life that has counted its sections, with the fences of each hart, where they are asked for and each hart is settled.
+fn say_played(
+    alloc: Global,
+    fences: bool,
+    flat: &Flat,
+    life: &Life,
+) -> Result<Said, OutOfMemory>
+    requires room { HaveRoom (map shape_of (flat_of flat.now).variables) }
+    requires harts { length (world_of life.now).harts ≡ length life.now.runs.program }
+    requires counted { CountsSections (flat_of flat.now) life.now }
+    ensures { IfOk result (λ said. IsReportWith fences (machine_state (flat_of flat.now) (world_of life.now) (schedules (steps_in life.now)))
+        (fences_in life.now) said.status said.output.items) }
+{
+    let said = say(alloc, flat, life)?;
+    if fences && said.status == 0 {
+        with_fences(alloc, life, said)
+    } else {
+        Ok(said)
+    }
+}
+
 /// What is said of a life of a compiled source, by what is asked of it.
 fn say_asked(
     alloc: Global,
@@ -72,7 +124,7 @@ fn say_asked(
         Says asked compiled.now.text.items (translation_in compiled.now) life.now.journal said.status said.output.items) }
 {
     match asked {
-        Asked::Report => say(alloc, &compiled.flat, life),
+        Asked::Report { fences } => say_played(alloc, fences, &compiled.flat, life),
         Asked::Image => image(alloc, &compiled.text, &compiled.translated.object, life),
     }
 }

@@ -10,7 +10,7 @@ use Rattle.run_scripts.specs.Draws.{drawn_event, drawn_evictions, drawn_run, eve
 use Rattle.run_scripts.specs.GeneratedSources.{generated_source, mutex_item, section_line, thread_head, thread_item, variable_item}
 use Rattle.run_scripts.specs.Journals.{command_text, journal_text}
 use Rattle.run_scripts.specs.Plays.{BadStart, PastFew, TooMany, fault_within, play_fault, script_events}
-use Rattle.run_scripts.specs.Reports.{variable_line, element_text, ended_line, ended_lines, schedule_line, run_text, hart_text, unsettled_line}
+use Rattle.run_scripts.specs.Reports.{variable_line, element_text, count_line, count_lines, fence_lines, schedule_line, run_text, hart_text, unsettled_line}
 use Rattle.run_scripts.specs.Scripts as s
 use Rattle.run_scripts.specs.declared.script.Command.TheVariants.{Point, Evict, Start}
 use Rattle.run_scripts.specs.declared.script.Command.TheVariants.{Steps as StepsOf}
@@ -30,9 +30,13 @@ references_by_line : variable_line (record { name = codes "h"; elements = None �
 unfolding variable_line element_text digits
 references_by_line = refl
 
-ended_by_thread : ended_lines 0 (1 ∷ 20 ∷ []) ≡ codes "ended 0 1\nended 1 20\n"
-unfolding ended_line digits
+ended_by_thread : count_lines (codes "ended") 0 (1 ∷ 20 ∷ []) ≡ codes "ended 0 1\nended 1 20\n"
+unfolding count_line digits
 ended_by_thread = refl
+
+fences_by_thread : fence_lines (12 ∷ 0 ∷ []) ≡ codes "fences 0 12\nfences 1 0\n"
+unfolding count_line digits
+fences_by_thread = refl
 
 runs_are_merged : schedule_line (0 ∷ 0 ∷ 1 ∷ 0 ∷ 1 ∷ 1 ∷ 1 ∷ []) ≡ codes "schedule 0*2 1*1 0*1 1*3\n"
 unfolding schedule_line run_text digits

@@ -50,14 +50,18 @@ element_text element = codes " " ++ element_word element
 unfoldable pub variable_line : Variable → List ℕ
 variable_line x = line (x.name ++ codes " =" ++ flat_map element_text x.elements)
 
--- `ended T N`: so many sections of thread T have ended
-unfoldable pub ended_line : (thread sections : ℕ) → List ℕ
-ended_line thread sections = line (codes "ended " ++ decimal thread ++ codes " " ++ decimal sections)
+-- `WORD T N`: of thread T so many are counted, as `ended 0 2` of sections and `fences 0 12` of fences
+unfoldable pub count_line : (word : List ℕ) → (thread count : ℕ) → List ℕ
+count_line word thread count = line (word ++ codes " " ++ decimal thread ++ codes " " ++ decimal count)
 
 -- a line for each thread, from this one on
-abbrev pub ended_lines : (thread : ℕ) → (sections : List ℕ) → List ℕ
-ended_lines thread [] = []
-ended_lines thread (n ∷ ns) = ended_line thread n ++ ended_lines (thread + 1) ns
+abbrev pub count_lines : (word : List ℕ) → (thread : ℕ) → (counts : List ℕ) → List ℕ
+count_lines word thread [] = []
+count_lines word thread (n ∷ ns) = count_line word thread n ++ count_lines word (thread + 1) ns
+
+-- how many fences each thread's hart has finished
+abbrev pub fence_lines : (fences : List ℕ) → List ℕ
+fence_lines fences = count_lines (codes "fences") 0 fences
 
 -- ---- The schedule
 
@@ -80,7 +84,7 @@ unfoldable pub unsettled_line : (harts : List ℕ) → List ℕ
 unsettled_line harts = line (codes "unsettled" ++ flat_map hart_text harts)
 
 unfoldable pub settled_report : ReportedState → List ℕ
-settled_report s = flat_map variable_line s.variables ++ ended_lines 0 s.ended ++ flat_map schedule_line s.schedules
+settled_report s = flat_map variable_line s.variables ++ count_lines (codes "ended") 0 s.ended ++ flat_map schedule_line s.schedules
 
 -- where a hart isn't settled, nothing is said but which
 abbrev pub report_by : (unsettled : List ℕ) → ReportedState → List ℕ

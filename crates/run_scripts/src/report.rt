@@ -1,8 +1,8 @@
 //! Reports.
 ghost use Rattle.std.specs.Prelude.{◌≡◌, ◌++◌, None, Some, map, OnOk, IfOk, flat_map};
 ghost use Rattle.std.specs.Option.{option_to_list};
-ghost use Rattle.run_scripts.specs.Reports.{element_text, variable_line, ended_line, ended_lines, numbers_in, referred, reported, run_text};
-ghost use Rattle.run_scripts.specs.Reports.{schedule_line, hart_text, unsettled_line, settled_report, report};
+ghost use Rattle.run_scripts.specs.Reports.{element_text, variable_line, count_line, count_lines, fence_lines, numbers_in, referred, reported};
+ghost use Rattle.run_scripts.specs.Reports.{run_text, schedule_line, hart_text, unsettled_line, settled_report, report};
 ghost use Rattle.run_scripts.specs.Runs.{runs_of};
 ghost use Rattle.run_scripts.specs.links.ReportViews.{steps_of, variable_of, state_of};
 ghost use Rattle.run_scripts.specs.links.RunViews.{run_of};
@@ -173,28 +173,42 @@ fn put_variables(
     Ok(())
 }
 
-/// Adds the line `ended T N` of a thread.
-#[tactic(auto, unfolding(crate::specs::Reports::ended_line))]
-fn put_ended(
+/// Adds the line of a thread, as `ended 0 2`.
+#[tactic(auto, unfolding(crate::specs::Reports::count_line))]
+fn put_count(
     alloc: Global,
     report: &mut Vec<u8>,
+    word: &[u8],
     thread: usize,
-    sections: u64,
+    count: u64,
 ) -> Result<(), OutOfMemory>
-    ensures { OnOk result (report.new.items ≡ report.old.items ++ ended_line thread sections) }
+    ensures { OnOk result (report.new.items ≡ report.old.items ++ count_line word.now thread count) }
 {
-    let text = format!(in alloc; "ended {thread} {sections}\n")?;
+    put(report, word)?;
+    let text = format!(in alloc; " {thread} {count}\n")?;
     put(report, text.as_bytes())
 }
 
 /// Adds a line for each thread.
-fn put_all_ended(alloc: Global, report: &mut Vec<u8>, ended: &[u64]) -> Result<(), OutOfMemory>
-    ensures { OnOk result (report.new.items ≡ report.old.items ++ ended_lines 0 ended.now) }
+fn put_counts(
+    alloc: Global,
+    report: &mut Vec<u8>,
+    word: &[u8],
+    counts: &[u64],
+) -> Result<(), OutOfMemory>
+    ensures { OnOk result (report.new.items ≡ report.old.items ++ count_lines word.now 0 counts.now) }
 {
-    for (thread, sections) in ended.iter().enumerate() {
-        put_ended(alloc, report, thread, *sections)?;
+    for (thread, count) in counts.iter().enumerate() {
+        put_count(alloc, report, word, thread, *count)?;
     }
     Ok(())
+}
+
+/// Adds the line `fences T N` of each thread.
+pub fn put_fences(alloc: Global, report: &mut Vec<u8>, fences: &[u64]) -> Result<(), OutOfMemory>
+    ensures { OnOk result (report.new.items ≡ report.old.items ++ fence_lines fences.now) }
+{
+    put_counts(alloc, report, b"fences", fences)
 }
 
 /// Adds ` T*N`.
@@ -281,7 +295,7 @@ fn settled_report(alloc: Global, state: &Reported) -> Result<Vec<u8>, OutOfMemor
 {
     let mut output = Vec::new(alloc);
     put_variables(alloc, &mut output, &state.variables)?;
-    put_all_ended(alloc, &mut output, &state.ended)?;
+    put_counts(alloc, &mut output, b"ended", &state.ended)?;
     put_schedules(alloc, &mut output, &state.schedules)?;
     Ok(output)
 }

@@ -5,8 +5,8 @@
 //! The table has plays with crashes in all phases of a recovery, points durable by an eviction alone, and words that two mutexes
 //! share; drawn programs and scripts; texts that each rule refuses, places worked out by hand; indexes at both sides of their bound;
 //! schedules; values of 189 expressions as a C compiler has them, each with its kind, and of 21 that C leaves open; nodes and
-//! boundaries of short sources; objects, listings and images, all bytes; images with faults, one before another; an accepted input
-//! at every limit; and a dozen longer programs with the variables and ended sections that a C compiler's build of the same text
+//! boundaries of short sources; fences, of lives and recoveries too; objects, listings and images, all bytes; images with faults,
+//! one before another; an accepted input at every limit; and a dozen longer programs with the variables and ended sections that a C compiler's build of the same text
 //! leaves (locks that do nothing, thread after thread; signed sums wrap, `char` is unsigned). Of the commands that run harts on threads
 //! it has only what is the same in whatever order they come.
 //!

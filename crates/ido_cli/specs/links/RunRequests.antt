@@ -9,16 +9,16 @@ use Rattle.ido_cli.specs.declared.answer.Product.TheVariants as product
 use Rattle.ido_cli.specs.declared.play.Asked.{Asked}
 use Rattle.ido_cli.specs.declared.play.Asked.TheVariants as asked
 use Rattle.ido_cli.specs.Images.{IsImageAfter}
-use Rattle.ido_cli.specs.Plays.{IsRunBy}
+use Rattle.ido_cli.specs.Plays.{IsPlayed}
 
 -- the command that asks for it
 abbrev pub command_asking : Asked → Command
-command_asking asked.Report = command.Play
+command_asking (asked.Report fences) = command.Play fences
 command_asking asked.Image = command.Image
 
 -- what is to be said of a translation of a source and events
 abbrev pub Says : Asked → (source : List ℕ) → Translation → List Event → (status : ℕ) → (output : List ℕ) → Type 0
-Says asked.Report source c events status output = IsRunBy c events status output
+Says (asked.Report fences) source c events status output = IsPlayed fences c events status output
 Says asked.Image source c events status output = IsImageAfter source c events status output
 
 -- the command that makes it

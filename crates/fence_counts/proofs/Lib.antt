@@ -1,0 +1,2 @@
+mod UnbalancedLogs
+mod FencesAlong

@@ -1,0 +1,41 @@
+-- Fences that a hart has finished, and boundaries whose point it has stored, in all lives: as a core counts both.
+use Rattle.std.specs.Prelude.{ℕ, ◌+◌, ◌*◌, ◌<◌, ◌≤◌, List, [], ◌∷◌, length}
+use Rattle.machine_events.specs.declared.event.Event.{Event}
+use Rattle.machine_events.specs.declared.event.Event.TheVariants.{Step, Evict, Crash, Start}
+use Rattle.machine_events.specs.Cores.{finished_fences, point_stores}
+use Rattle.machine_model.specs.Executables.{first_world}
+use Rattle.machine_model.specs.Schedule.{only_life}
+use Rattle.run_tracker.specs.ObjectLives.{LifeConfig, living}
+use Rattle.crash_simulation.specs.Systems.{System, IsSystem}
+use Rattle.crash_simulation.specs.BoundaryFences.{boundary_fences}
+use Rattle.compiler_correctness.specs.Translations.{Translation}
+use Rattle.compiler_correctness.specs.Laws.{translation_of}
+
+-- how often power is lost
+abbrev pub crashes_in : List Event → ℕ
+crashes_in [] = 0
+crashes_in (Crash ∷ events) = 1 + crashes_in events
+crashes_in (Step h ∷ events) = crashes_in events
+crashes_in (Evict line mask ∷ events) = crashes_in events
+crashes_in (Start ∷ events) = crashes_in events
+
+-- what a life of the translation is before any event
+abbrev pub opening : Translation → LifeConfig
+opening c = record { runs = c.runs; kept_before = only_life []; world = first_world c.runs }
+
+-- the fences that the hart has finished by the events: before crashes, in recoveries, and in sections that were lost
+abbrev pub fences_finished : Translation → List Event → (h : ℕ) → ℕ
+fences_finished c events h = finished_fences living (opening c) events h
+
+-- those of the boundaries whose point it has stored by them
+abbrev pub fences_of_points : Translation → List Event → (h : ℕ) → ℕ
+fences_of_points c events h = boundary_fences c.runs.log * point_stores living (opening c) events h
+
+-- they differ by one at most, and by one more for each crash: one that cuts a boundary off
+pub record AreFencesOfPoints (c : Translation) (events : List Event) (h : ℕ) : Type 0 where
+  pub no_more : fences_finished c events h ≤ fences_of_points c events h + 1 + crashes_in events
+  pub no_less : fences_of_points c events h ≤ fences_finished c events h + 1 + crashes_in events
+
+-- after any events, of each hart of a compiled program, however its threads log
+abbrev pub FencesFollowPoints : Type 0
+FencesFollowPoints = (y : System) → IsSystem y → (events : List Event) (h : ℕ) → h < length y.runs.program → AreFencesOfPoints (translation_of y) events h
