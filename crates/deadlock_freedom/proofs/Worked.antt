@@ -34,6 +34,7 @@ unfolding program
 config holders harts = record {
   runs = record { log = V1; program = program; marks = []; resumes = []; initial = []; mutexes = 2 };
   kept_before = only_life [];
+  ended_before = [];
   world = record { log = V1; words = []; harts = harts; holders = holders; recovering = true };
 }
 

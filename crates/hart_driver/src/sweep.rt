@@ -56,17 +56,17 @@ fn outcomes_in_turn<P: Replay, G: Gate>(
     alloc: Global,
     replay: &P,
     gate: &G,
-    first: u32,
-    count: u32,
+    first: u64,
+    count: u64,
 ) -> Result<Vec<Outcome>, OutOfMemory>
-    requires room { first + count < 2 ^ 32 }
+    requires room { first + count ≤ 2 ^ 32 }
     requires points { (k : ℕ) → first ≤ k → k < first + count → P.has_point replay.now k }
     ensures { IfOk result (λ v. AreOutcomes (P.is_outcome replay.now) first count v.items) }
 {
     let mut outcomes = Vec::new(alloc);
     for k in first..first + count {
-        gate.pass(k, 1);
-        push(&mut outcomes, replay.outcome(k)?)?;
+        gate.pass(k as u32, 1);
+        push(&mut outcomes, replay.outcome(k as u32)?)?;
     }
     Ok(outcomes)
 }
@@ -78,11 +78,11 @@ fn outcomes_from<R: Threads + Sync, P: Replay + Sync, G: Gate + Sync>(
     alloc: Global,
     replay: &P,
     gate: &G,
-    first: u32,
-    count: u32,
+    first: u64,
+    count: u64,
     parts: u32,
 ) -> Result<Vec<Outcome>, OutOfMemory>
-    requires room { first + count < 2 ^ 32 }
+    requires room { first + count ≤ 2 ^ 32 }
     requires points { (k : ℕ) → first ≤ k → k < first + count → P.has_point replay.now k }
     ensures { IfOk result (λ v. AreOutcomes (P.is_outcome replay.now) first count v.items) }
 {
@@ -94,11 +94,11 @@ fn outcomes_from<R: Threads + Sync, P: Replay + Sync, G: Gate + Sync>(
     let next = first + low;
     let half = parts / 2;
     let front = move || -> Result<Vec<Outcome>, OutOfMemory>
-        requires { IsSync R.row × IsSync P.row × IsSync G.row × (first + low < 2 ^ 32) × ((k : ℕ) → first ≤ k → k < first + low → P.has_point replay.now k) }
+        requires { IsSync R.row × IsSync P.row × IsSync G.row × (first + low ≤ 2 ^ 32) × ((k : ℕ) → first ≤ k → k < first + low → P.has_point replay.now k) }
         ensures { IfOk result (λ v. AreOutcomes (P.is_outcome replay.entry.now) first low v.items) }
     { outcomes_from(rt, alloc, replay, gate, first, low, half) };
     let back = move || -> Result<Vec<Outcome>, OutOfMemory>
-        requires { IsSync R.row × IsSync P.row × IsSync G.row × (next + high < 2 ^ 32) × ((k : ℕ) → next ≤ k → k < next + high → P.has_point replay.now k) }
+        requires { IsSync R.row × IsSync P.row × IsSync G.row × (next + high ≤ 2 ^ 32) × ((k : ℕ) → next ≤ k → k < next + high → P.has_point replay.now k) }
         ensures { IfOk result (λ v. AreOutcomes (P.is_outcome replay.entry.now) next high v.items) }
     { outcomes_from(rt, alloc, replay, gate, next, high, half) };
     let (a, b) = join(rt, front, back);
@@ -116,9 +116,8 @@ pub fn sweep<R: Threads + Sync, P: Replay + Sync, G: Gate + Sync>(
     last: u32,
     gate: &G,
 ) -> Result<Vec<Outcome>, OutOfMemory>
-    requires room { last + 1 < 2 ^ 32 }
-    requires points { (k : ℕ) → k ≤ last → P.has_point replay.now k }
+    requires { (k : ℕ) → k ≤ last → P.has_point replay.now k }
     ensures { IfOk result (λ v. AreOutcomes (P.is_outcome replay.now) 0 (last + 1) v.items) }
 {
-    outcomes_from(rt, alloc, replay, gate, 0, last + 1, MOST_PARTS)
+    outcomes_from(rt, alloc, replay, gate, 0, u64::from(last) + 1, MOST_PARTS)
 }

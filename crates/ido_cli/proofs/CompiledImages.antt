@@ -8,6 +8,10 @@ use Rattle.ido_compile.specs.declared.compiler.Compiled.{Compiled}
 use Rattle.ido_compile.specs.declared.error.CompileError.{CompileError}
 use Rattle.ido_compile.specs.declared.error.CompileError.TheVariants as compiling
 use Rattle.ido_compile.specs.CompileAnswers.{IsCompileAnswerAs}
+use Rattle.ido_compile.specs.LoggedTexts.{IsAcceptedAs, IsRefusedAs}
+use Rattle.ido_compile.specs.Verdicts.{NotBoth}
+use Rattle.ido_base.specs.declared.place.Place.{Place}
+use Rattle.c_tree.specs.declared.rule.Rule.{Rule}
 use Rattle.image_checks.specs.declared.error.ImageError.{ImageError}
 use Rattle.file_fields.specs.declared.error.ReadError.{ReadError}
 use Rattle.file_fields.specs.declared.error.ReadError.TheVariants as read
@@ -24,12 +28,14 @@ use Rattle.machine_model.specs.Schedule.{all_lives}
 use Rattle.run_scripts.specs.links.ReportViews.{steps_of}
 use Rattle.run_tracker.specs.links.EarlierLives.{lives_in}
 use Rattle.ido_cli.specs.CompiledImages.{size_of, threads_of, BeginsCompiled, HasState, IsFaultAfter, IsImageAnswer, IsStateAfter, whole, no_version, no_source}
+use Rattle.ido_cli.specs.CompiledImages.{error_of}
 use Rattle.ido_cli.specs.CompiledImages.{refused, no_element, no_logs, no_state, no_variables, unsound, no_memory}
 use Rattle.image_checks.specs.VariableReferences.{AreReferences, IsReferenceFault}
 use Rattle.image_checks.specs.links.Errors.{IsFaultOrMemory, of_read}
-use Rattle.ido_cli.specs.links.BegunImages.{of_logs}
+use Rattle.ido_cli.specs.links.BegunImages.{IsFirstFault, of_logs}
 use Rattle.ido_cli.specs.links.CompileRefusals.{image_fault}
-use Rattle.file_fields.specs.Fields.{Magic, Version, Cut, Field, Rest}
+use Rattle.file_fields.specs.Fields.{Fault, Magic, Version, Cut, Field, Rest}
+use Rattle.file_fields.proofs.Public.{ok_is}
 use Rattle.file_fields.specs.links.ReaderResults.{IsFault, Fails}
 use Rattle.image_checks.specs.StateAnswers.{IsStateAnswer, sound, faulty}
 use Rattle.image_checks.specs.StateAnswers as states
@@ -79,28 +85,61 @@ module _ (flat : Flat) (version : ImageVersion) (total size threads : ℕ) (byte
 
 -- ---- All bytes
 
+one_way : {A : Type 0} (found : Result A Fault) (x : A) (fault : Fault) → found ≡ Ok x → found ≡ Err fault → ⊥
+one_way {A = A} found x fault ok err = let both : ◌≡◌ {A = Result A Fault} (Ok x) (Err fault) = sym ok ∙ err in cc
+
 module _ (newest : ImageVersion) (bytes : List ℕ) where
-  pub version_answer : (x : ReadError) → IsFault x (version_in newest bytes) → IsImageAnswer newest bytes (Err (of_read x))
-  version_answer read.Magic h = no_version Magic h
-  version_answer read.Version h = no_version Version h
-  version_answer (read.Cut place) h = no_version (Cut place.0) h
-  version_answer (read.Field place) h = no_version (Field place.0) h
-  version_answer (read.Rest place) h = no_version (Rest place.0) h
+  -- they begin with no version, so with no source either
+  no_version_told : (fault : Fault) → version_in newest bytes ≡ Err fault → IsFirstFault newest bytes (error_of fault)
+  no_version_told fault h = record {
+    answer = no_version fault h;
+    none = inr (λ version c b. one_way (version_in newest bytes) version fault b.known h);
+  }
+
+  pub version_answer : (x : ReadError) → IsFault x (version_in newest bytes) → IsFirstFault newest bytes (of_read x)
+  version_answer read.Magic h = no_version_told Magic h
+  version_answer read.Version h = no_version_told Version h
+  version_answer (read.Cut place) h = no_version_told (Cut place.0) h
+  version_answer (read.Field place) h = no_version_told (Field place.0) h
+  version_answer (read.Rest place) h = no_version_told (Rest place.0) h
   version_answer read.Memory h = absurd h
 
   module _ (version : ImageVersion) (known : version_in newest bytes ≡ Ok version) where
-    pub source_answer : (x : ReadError) → IsFault x (source_at version bytes) → IsImageAnswer newest bytes (Err (of_read x))
-    source_answer read.Magic h = no_source version Magic known h
-    source_answer read.Version h = no_source version Version known h
-    source_answer (read.Cut place) h = no_source version (Cut place.0) known h
-    source_answer (read.Field place) h = no_source version (Field place.0) known h
-    source_answer (read.Rest place) h = no_source version (Rest place.0) known h
+    same_version : (other : ImageVersion) (c : Compiled) → BeginsCompiled newest bytes other c → other ≡ version
+    same_version other c b = ok_is other version (sym b.known ∙ known)
+
+    begins_there : (other : ImageVersion) (c : Compiled) → (b : BeginsCompiled newest bytes other c) → source_at version bytes ≡ Ok (b.source, b.rest)
+    begins_there other c b = subst (λ (v : ImageVersion). source_at v bytes ≡ Ok (b.source, b.rest)) (same_version other c b) b.begins
+
+    no_source_told : (fault : Fault) → source_at version bytes ≡ Err fault → IsFirstFault newest bytes (error_of fault)
+    no_source_told fault h = record {
+      answer = no_source version fault known h;
+      none = inr (λ other c b. one_way (source_at version bytes) (b.source, b.rest) fault (begins_there other c b) h);
+    }
+
+    pub source_answer : (x : ReadError) → IsFault x (source_at version bytes) → IsFirstFault newest bytes (of_read x)
+    source_answer read.Magic h = no_source_told Magic h
+    source_answer read.Version h = no_source_told Version h
+    source_answer (read.Cut place) h = no_source_told (Cut place.0) h
+    source_answer (read.Field place) h = no_source_told (Field place.0) h
+    source_answer (read.Rest place) h = no_source_told (Rest place.0) h
     source_answer read.Memory h = absurd h
 
-    pub compile_answer : (source rest : List ℕ) (x : CompileError) → source_at version bytes ≡ Ok (source, rest) →
-        IsCompileAnswerAs (log_of version) source (Err x) → IsImageAnswer newest bytes (Err (image_fault x))
-    compile_answer source rest (compiling.Refused x) begins h = refused version source rest x.rule x.place known begins h
-    compile_answer source rest compiling.Memory begins h = no_memory
+    module _ (not_both : NotBoth) (source rest : List ℕ) (begins : source_at version bytes ≡ Ok (source, rest)) where
+      not_compiled : (rule : Rule) (place : Place) → IsRefusedAs (log_of version) source rule place → (other : ImageVersion) (c : Compiled) →
+          BeginsCompiled newest bytes other c → ⊥
+      not_compiled rule place told other c b =
+          let same : b.source ≡ source = ap (λ (x : List ℕ × List ℕ). x.0) (ok_is (b.source, b.rest) (source, rest) (sym (begins_there other c b) ∙ begins)) in
+          not_both (log_of version) source (flat_of c.flat) rule place
+          (subst (λ (text : List ℕ). IsAcceptedAs (log_of version) text (flat_of c.flat)) same
+          (subst (λ (v : ImageVersion). IsAcceptedAs (log_of v) b.source (flat_of c.flat)) (same_version other c b) b.compiled.accepted)) told
+
+      pub compile_answer : (x : CompileError) → IsCompileAnswerAs (log_of version) source (Err x) → IsFirstFault newest bytes (image_fault x)
+      compile_answer (compiling.Refused x) h = record {
+        answer = refused version source rest x.rule x.place known begins h;
+        none = inr (not_compiled x.rule x.place h);
+      }
+      compile_answer compiling.Memory h = record { answer = no_memory; none = inl refl }
 
   module _ (version : ImageVersion) (c : Compiled) (begun : BeginsCompiled newest bytes version c) (size threads : ℕ) (rest : List ℕ)
       (size_is : size ≡ size_of c) (threads_is : threads ≡ threads_of c) (rest_is : begun.rest ≡ rest) where

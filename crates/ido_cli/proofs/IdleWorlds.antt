@@ -1,6 +1,6 @@
 -- A machine that begins with words of variables and with logs without a word: every hart is settled.
 use Rattle.std.proofs.Common.{◌≡◌, Bool, ℕ, zero, suc, ◌+◌, ◌-◌, ◌*◌, ◌<◌, ◌≤◌, List, [], ◌∷◌, ◌++◌, length, map, replicate, take, get_or, refl, ap, ap₂}
-use Rattle.std.proofs.Common.{◌∙◌, arith, true, not, None}
+use Rattle.std.proofs.Common.{◌∙◌, arith, true, false, not, Option, Some, None, zero-add}
 use Rattle.std.specs.Prelude.{◌==◌, ◌&&◌, is_none}
 use Rattle.log_schemes.specs.declared.log.Log.{Log}
 use Rattle.ido_base.specs.Layout.{spread_words, word_number}
@@ -8,7 +8,9 @@ use Rattle.log_schemes.specs.Layout.{log_words, point_at}
 use Rattle.ido_base.specs.Locks.{held_from, holds_none}
 use Rattle.ido_base.specs.Words.{Word, durable_value, live_value, word_at, word_of}
 use Rattle.rv64_isa.specs.declared.object.Slot.{Slot}
-use Rattle.machine_model.specs.Machine.{World, after_crash_of, is_settled_hart}
+use Rattle.machine_model.specs.Machine.{Hart, World, after_crash_of, durable_point, fresh_hart, has_stopped, is_settled_hart, phase_after_crash}
+use Rattle.run_tracker.specs.ObjectLives.{is_stopped}
+use Rattle.crash_simulation.proofs.Public.{row_of}
 use Rattle.log_states.proofs.Public.{word_of_point}
 use Rattle.image_runs.proofs.Public.{word_there, words_are}
 use Rattle.ido_cli.specs.Reports.{unsettled_harts}
@@ -50,6 +52,13 @@ none_held (suc n) at h = none_held n (at + 1) h
 
 -- ---- The machine
 
+-- the hart that is found has stopped
+abbrev stopped_in : Option Hart → Bool
+stopped_in found = elim found [
+  | Some it ↦ has_stopped it.phase
+  | None ↦ false
+]
+
 module _ (variables : List ℕ) (count : ℕ) (few : length variables ≤ 8192) where
   abbrev words : List ℕ
   words = spread_words (length variables) (variables ++ replicate count 0)
@@ -86,6 +95,15 @@ module _ (variables : List ℕ) (count : ℕ) (few : length variables ≤ 8192) 
 
     pub all_settled : unsettled_harts begun ≡ []
     all_settled = none_chosen (λ h. not (is_settled_hart begun h)) 0 (length begun.harts) (λ h. ap not (hart_settled h))
+
+    -- no hart has a point, so each is done
+    pub all_stopped : (h : ℕ) → h < length program → is_stopped begun h ≡ true
+    unfolding after_crash_of
+    all_stopped h below =
+        let hart : ℕ → Hart = λ (thread : ℕ). fresh_hart program (phase_after_crash (durable_point log (map word_of words) thread)) thread in
+        let none : durable_point log (map word_of words) h ≡ 0 = ap durable_value (point_is log h) in
+        ap stopped_in (row_of hart 0 (length program) h below ∙ ap (λ (k : ℕ). Some (hart k)) (zero-add h))
+        ∙ ap (λ (point : ℕ). has_stopped (phase_after_crash point)) none
 
     -- where the variables are what is durable in other words
     pub own_stays : (ws : List Word) (n : ℕ) → variables ≡ take n (map durable_value ws) → length variables ≡ n → (i : ℕ) → i < n →

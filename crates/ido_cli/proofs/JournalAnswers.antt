@@ -1,6 +1,6 @@
 -- What `play` answers to a journal.
-use Rattle.std.proofs.Common.{◌≡◌, ℕ, suc, ◌<◌, ◌≤◌, List, [], ◌∷◌, ◌++◌, length, map, Bool, true, codes, flat_map}
-use Rattle.std.proofs.Common.{Some, None, sym, ap, subst, ◌∙◌, ◌==◌, if◌then◌else◌, arith, append_assoc}
+use Rattle.std.proofs.Common.{◌≡◌, ℕ, suc, ◌<◌, ◌≤◌, List, [], ◌∷◌, ◌++◌, length, map, Bool, true, false, codes, flat_map}
+use Rattle.std.proofs.Common.{Some, None, refl, sym, ap, subst, ◌∙◌, ◌==◌, if◌then◌else◌, arith, append_assoc}
 use Rattle.std.proofs.lemmas.Bool.{eqb-true}
 use Rattle.std.proofs.lemmas.List.{length-map}
 use Rattle.std.specs.Prelude.{◌-◌, slice_index}
@@ -22,8 +22,9 @@ use Rattle.run_scripts.specs.Scripts as scripts
 use Rattle.run_tracker.specs.ObjectLives.{living}
 use Rattle.ido_cli.specs.Answers.{ScriptedAnswer, unplayed, no_script, of_script}
 use Rattle.ido_cli.specs.Inputs.{rest_from, rest_of, source_from, source_of}
-use Rattle.ido_cli.specs.Laws.{IsAlone, JournalsArePlayed}
+use Rattle.ido_cli.specs.Laws.{IsAlone, JournalsArePlayed, in_lines}
 use Rattle.ido_cli.specs.Plays.{IsRunBy, IsTranslationOf, ScriptAnswer, beginning, events_by, faulty, ran}
+use Rattle.ido_cli.proofs.EndedTexts.{accepted_ended}
 use Rattle.ido_cli.proofs.JournalInputs.{Ends, split_at}
 use Rattle.ido_cli.proofs.PlayedRuns.{as_many_threads}
 
@@ -38,18 +39,40 @@ ends (c ∷ d ∷ ds) e =
 abbrev script_of : List Event → List ℕ
 script_of events = flat_map command_text (commands_of events)
 
-text_is : (source : List ℕ) (events : List Event) → ends_line source ≡ true → journal_text source events ≡ source ++ (line (codes "%%") ++ script_of events)
+text_is : (source : List ℕ) (events : List Event) → journal_text source events ≡ in_lines source ++ (line (codes "%%") ++ script_of events)
 unfolding journal_text
-text_is source events e =
-    ap (λ (b : Bool). (if b then source else line source) ++ line (codes "%%") ++ script_of events) e
-    ∙ append_assoc source (line (codes "%%")) (script_of events)
+text_is source events = append_assoc (in_lines source) (line (codes "%%")) (script_of events)
+
+ends_more : (source : List ℕ) → Ends (source ++ 10 ∷ [])
+ends_more [] = refl
+ends_more (c ∷ []) = refl
+ends_more (c ∷ d ∷ ds) = ends_more (d ∷ ds)
+
+lines_end : (source : List ℕ) → Ends (in_lines source)
+lines_end source =
+    let by : (b : Bool) → ends_line source ≡ b → Ends (if b then source else line source) =
+    λ b. elim b as (λ b. ends_line source ≡ b → Ends (if b then source else line source)) [
+      | true ↦ λ e. ends source e
+      | false ↦ λ e. ends_more source
+    ] in
+    by (ends_line source) refl
+
+-- an accepted source is so with an LF at its end
+accepted_lines : (source : List ℕ) (flat : f.Flat) → IsAcceptedAs command_log source flat → IsAcceptedAs command_log (in_lines source) flat
+accepted_lines source flat accepted =
+    let by : (b : Bool) → IsAcceptedAs command_log (if b then source else line source) flat =
+    λ b. elim b as (λ b. IsAcceptedAs command_log (if b then source else line source) flat) [
+      | true ↦ accepted
+      | false ↦ accepted_ended command_log source flat accepted
+    ] in
+    by (ends_line source)
 
 module _ (source : List ℕ) (events : List Event) (alone : IsAlone source) where
-  parts : (source_of (journal_text source events) ≡ source) × (rest_of (journal_text source events) ≡ script_of events)
+  parts : (source_of (journal_text source events) ≡ in_lines source) × (rest_of (journal_text source events) ≡ script_of events)
   unfolding source_of rest_of
   parts =
-      let text = text_is source events alone.ends in
-      let both = split_at (script_of events) true source (ends source alone.ends) alone.whole in
+      let text = text_is source events in
+      let both = split_at (script_of events) true (in_lines source) (lines_end source) alone in
       (ap (source_from true) text ∙ both.0, ap (rest_from true) text ∙ both.1)
 
 threads_are : (flat : f.Flat) (c : Translation) → IsTranslationOf flat c → length c.runs.program ≡ length flat.threads
@@ -131,7 +154,8 @@ journals_are_played one_flat not_both back source events flat status output alon
     let played = back command_log (length flat.threads) events (few_accepted command_log source flat accepted) limit valid in
     let both = parts source events alone in
     let input = journal_text source events in
-    let accepted_in : IsAcceptedAs command_log (source_of input) flat = subst (λ (text : List ℕ). IsAcceptedAs command_log text flat) (sym both.0) accepted in
+    let accepted_in : IsAcceptedAs command_log (source_of input) flat = subst (λ (text : List ℕ). IsAcceptedAs command_log text flat) (sym both.0)
+    (accepted_lines source flat accepted) in
     let read_is : scripts.read command_log (length flat.threads) (rest_of input) ≡ scripts.Lines played.lines =
     ap (scripts.read command_log (length flat.threads)) both.1 ∙ played.read_is in
     let it = is_of_script one_flat not_both input flat accepted_in played.lines read_is IsRunBy status output answer in

@@ -50,3 +50,6 @@ mod SameContents
 mod JournalInputs
 mod JournalAnswers
 mod OrderedLives
+mod LivesKept
+mod EndedTexts
+mod CountedLives

@@ -1,6 +1,6 @@
 -- What is played of a compiled source: the machine and the kept steps of its translation, which are those of the source.
 use Rattle.std.proofs.Common.{◌≡◌, refl, ℕ, suc, ◌+◌, ◌<◌, ◌≤◌, List, [], ◌∷◌, ◌++◌, length, map, take}
-use Rattle.std.proofs.Common.{sym, ◌∙◌, ap, ap₂, subst, Option, Some, None, min}
+use Rattle.std.proofs.Common.{sym, ◌∙◌, ap, ap₂, subst, Option, Some, None, min, slice_index_or, zero-add}
 use Rattle.std.proofs.lemmas.List.{length-map, take_all}
 use Rattle.log_schemes.specs.declared.log.Log.{Log}
 use Rattle.machine_events.specs.declared.event.Event.{Event}
@@ -41,7 +41,7 @@ use Rattle.ido_cli.specs.Reports.{machine_state, unsettled_harts}
 use Rattle.ido_cli.specs.links.CountedSections.{CountsSections}
 use Rattle.ido_cli.specs.links.PlayedLives.{HasPlayed}
 use Rattle.ido_cli.specs.Runs.{IsReport, named}
-use Rattle.ido_cli.proofs.EndedSections.{are_ended}
+use Rattle.ido_cli.proofs.EndedSections.{are_ended, at_points}
 use Rattle.ido_cli.proofs.ScriptEventCount.{events_fit}
 use Rattle.ido_cli.proofs.SettledReports.{run_of}
 use Rattle.source_machine.specs.Lives.{ended_lives}
@@ -121,8 +121,10 @@ module _ (flat : f.Flat) (object : Object) (marks : Marks) (cuts : Cuts) (life :
           harts = many ∙ (length-map object.code.items (λ code. map slot_of code.items) ∙ threads);
           each = λ h below.
               let c = translation_to flat object marks cuts in
-              ap₂ (λ (x : LifeConfig) (es : List Event). passed_count living (λ (n : LifeConfig) e. ends_at_point n.runs.program n.world e h) x es)
+              ap₂ (λ (x : LifeConfig) (es : List Event). slice_index_or x.ended_before h 0
+              + passed_count living (λ (n : LifeConfig) e. ends_at_point n.runs.program n.world e h) x es)
               p.begins p.journal
+              ∙ zero-add (at_points c compilation h (subst (λ (n : ℕ). h < n) many below) events)
               ∙ (are_ended c compilation h (subst (λ (n : ℕ). h < n) many below) events
               ∙ ap (λ (s : Steps). ended_lives flat (m.start flat) (schedules s) h) (sym same_steps));
         }

@@ -44,14 +44,15 @@ module _ (c : Translation) (file : Image) (turns : ℕ) (life : Course) (r : Has
       }
 
   -- as an image of the newest version, or why there is none
-  pub upgrade : (source : List ℕ) (status : ℕ) (output : List ℕ) →
+  pub upgrade : ImagesAreCrashes → IsCompilation c → (source : List ℕ) (status : ℕ) (output : List ℕ) →
       IsUpgradeSaid source c (world_of life) (schedules (steps_in life)) status output → IsUpgrade source c file turns status output
-  upgrade source status output told = record {
+  upgrade crashes compilation source status output told = record {
     journal = life.journal;
     leg = r.leg;
     said =
         subst (λ (s : Steps). IsUpgradeSaid source c (world_from c (image_in c file) life.journal) (schedules s) status output) life_steps
         (subst (λ (w : World). IsUpgradeSaid source c w (schedules (steps_in life)) status output) life_world told);
+    goes_on = λ before left found report reported. after_crash crashes c compilation file life.journal found report reported before left;
   }
 
   -- in the first life of a file no other life begins

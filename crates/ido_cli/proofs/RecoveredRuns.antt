@@ -65,11 +65,11 @@ use Rattle.ido_cli.proofs.SettledReports.{run_of}
 -- ---- The life that is begun from it
 
 pub begun_from : (object : Object) (marks : Marks) (words words' : List ℕ) (earlier earlier' : List (Vec ℕ Global)) (schedule schedule' : List ℕ)
-    (cap : ℕ) (life : Course) → life ≡ life_from object marks words (lives_in earlier schedule) cap → words ≡ words' → earlier ≡ earlier' →
-    schedule ≡ schedule' → life ≡ life_from object marks words' (lives_in earlier' schedule') cap
+    (cap : ℕ) (life : Course) → life ≡ life_from object marks words (lives_in earlier schedule) [] cap → words ≡ words' → earlier ≡ earlier' →
+    schedule ≡ schedule' → life ≡ life_from object marks words' (lives_in earlier' schedule') [] cap
 begun_from object marks words words' earlier earlier' schedule schedule' cap life is a b c =
-    is ∙ ap (λ (ws : List ℕ). life_from object marks ws (lives_in earlier schedule) cap) a
-    ∙ ap₂ (λ (ls : List (Vec ℕ Global)) (ks : List ℕ). life_from object marks words' (lives_in ls ks) cap) b c
+    is ∙ ap (λ (ws : List ℕ). life_from object marks ws (lives_in earlier schedule) [] cap) a
+    ∙ ap₂ (λ (ls : List (Vec ℕ Global)) (ks : List ℕ). life_from object marks words' (lives_in ls ks) [] cap) b c
 
 -- ---- A run from a file of the same translation
 
@@ -116,8 +116,8 @@ pub spread_size : (log : Log) (n threads : ℕ) (words : List ℕ) → n ≤ VAR
     length (spread_words n words) ≡ word_count log threads
 spread_size log n threads words few size = spread_long n (log_words log * threads) words few size ∙ all_words log threads
 
-module _ (flat : f.Flat) (object : Object) (marks : Marks) (cuts : Cuts) (t : IsTranslatedAs object.log flat object marks cuts) (file : Image) (cap : ℕ)
-    (begun : Course) (is : begun ≡ life_from object marks file.words file.kept cap) where
+module _ (flat : f.Flat) (object : Object) (marks : Marks) (cuts : Cuts) (t : IsTranslatedAs object.log flat object marks cuts) (file : Image)
+    (ended : List ℕ) (cap : ℕ) (begun : Course) (is : begun ≡ life_from object marks file.words file.kept ended cap) where
   abbrev made : Translation
   made = translation_to flat object marks cuts
 
@@ -201,10 +201,10 @@ module _ (flat : f.Flat) (object : Object) (marks : Marks) (cuts : Cuts) (t : Is
         ∙ sym (ap (λ (m : LifeConfig). length m.runs.program) (same ∙ ap opening_of is))
 
     module _ (files : FilesBegin) where
-      opens : opening_of life ≡ recovering made file
+      opens : opening_of life ≡ (let m : LifeConfig = record (recovering made file) { ended_before = ended } in m)
       opens =
           same ∙ ap opening_of is
-          ∙ ap (λ (w : World). let m : LifeConfig = record (recovering made file) { world = w } in m) (files flat object marks cuts file [])
+          ∙ ap (λ (w : World). let m : LifeConfig = record (recovering made file) { ended_before = ended; world = w } in m) (files flat object marks cuts file [])
 
       pub same_world : world_of life ≡ world_from made (image_in made file) life.journal
       same_world = ap (λ (m : LifeConfig). after_events m.runs.program m.world life.journal) opens
@@ -213,19 +213,21 @@ module _ (flat : f.Flat) (object : Object) (marks : Marks) (cuts : Cuts) (t : Is
       same_steps =
           ap (λ (m : LifeConfig). steps_along m.runs.marks m.runs.program m.world life.journal (first_steps (length m.runs.program) m.kept_before)) opens
 
-      pub has_recovered : (turns moment : ℕ) (stops : List Stop) (evict : Option Evictor) →
+      pub has_recovered : ended ≡ [] → (turns moment : ℕ) (stops : List Stop) (evict : Option Evictor) →
           moment ≡ min most_leg_events (length object.code.items * turns + 1) → IsLifeDriven begun turns moment None life stops evict →
           length file.words ≡ length object.initial.items / 8 + log_words object.log * length object.code.items →
           sum_by length (all_lives file.kept) ≤ MOST_STEPS → HasRecovered made file turns life
-      has_recovered turns moment stops evict room d size few =
+      has_recovered none turns moment stops evict room d size few =
           let journal_is = d.plays.events_are ∙ ap (λ (es : List Event). es ++ d.journal) none_made in
           let driven = subst (λ (es : List Event). IsLeg (leg_from turns moment begun None) es) (sym journal_is) d.leg in
           let leg = whole_leg turns moment room life.journal driven in
+          let recovers : opening_of life ≡ recovering made file =
+          opens ∙ ap (λ (ns : List ℕ). let m : LifeConfig = record (recovering made file) { ended_before = ns } in m) none in
           record {
-            opens = opens;
+            opens = recovers;
             leg =
                 subst (λ (es : List Event). IsLeg (leg_after (recovering made file) turns None es None) life.journal) none_made
-                (is_leg_after turns None None most_leg_events begun None (sym same ∙ opens)
+                (is_leg_after turns None None most_leg_events begun None (sym same ∙ recovers)
                 (sym (ap (λ (es : List Event). moment_after es None) none_made)) tt life.journal leg);
             sound = sound_after size;
             harts = harts_after size;

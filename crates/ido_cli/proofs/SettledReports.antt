@@ -18,6 +18,7 @@ use Rattle.ido_cli.specs.Plays.{IsRunBy, IsSourceRun}
 use Rattle.ido_cli.specs.Reports.{machine_state, unsettled_harts}
 use Rattle.ido_cli.specs.Runs.{IsReport, named, run_state, status_by, unsettled_threads}
 use Rattle.ido_cli.proofs.GatheredReports.{chosen, left_out}
+use Rattle.ido_cli.proofs.LivesKept.{lives_kept}
 
 -- ---- Harts and threads between sections
 
@@ -117,5 +118,5 @@ run_of c is events status output told = record {
   reported = told;
   runs = (is.settled events).runs;
   settled = settled_run c is events status output told;
-  sections = is.sections events;
+  sections = lives_kept c is.sections events;
 }

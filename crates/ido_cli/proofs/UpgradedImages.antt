@@ -1,12 +1,17 @@
 -- Images of older versions, and those of the newest that they become.
 use Rattle.std.proofs.Common.{◌≡◌, ℕ, ◌*◌, ◌/◌, ◌-◌, ◌≤◌, List, [], ◌∷◌, ◌++◌, Bool, true, false, length, map, take, drop, replicate, zero, suc}
-use Rattle.std.proofs.Common.{refl, ap, sym, subst, ◌∙◌, arith, Result, Ok, Err}
-use Rattle.std.specs.Prelude.{◌==◌, ◌&&◌, IfOk, if◌then◌else◌, nat_le, sum_by}
+use Rattle.std.proofs.Common.{refl, ap, sym, subst, ◌∙◌, arith, inl, inr, Result, Ok, Err}
+use Rattle.std.specs.Prelude.{◌==◌, ◌&&◌, IfOk, if◌then◌else◌, codes, nat_le, sum_by}
 use Rattle.std.proofs.lemmas.List.{length-map, take_all}
+use Rattle.std.proofs.lemmas.Option.{none-some, same_Some}
+use Rattle.run_scripts.specs.Reports.{line}
+use Rattle.ido_cli.specs.Answers.{UpgradeAnswer, not_older, of_older}
 use Rattle.std.proofs.lemmas.List.Sums.{sum_by-cons}
 use Rattle.ido_base.specs.Layout.{variable_lines}
 use Rattle.ido_base.specs.Words.{Word, durable_value}
 use Rattle.ido_base.specs.declared.limits.TheConstants.{MOST_THREADS, VARIABLE_WORDS}
+use Rattle.ido_base.specs.declared.place.Place.{Place}
+use Rattle.c_tree.specs.declared.rule.Rule.{Rule}
 use Rattle.c_tree.specs.Flats.{flat_of, thread_of}
 use Rattle.machine_model.specs.Executables.{Executable}
 use Rattle.rv64_isa.specs.Programs.{slot_of}
@@ -25,6 +30,7 @@ use Rattle.ido_compile.specs.declared.error.CompileError.{CompileError}
 use Rattle.ido_compile.specs.declared.error.CompileError.TheVariants as compiling
 use Rattle.ido_compile.specs.CompileAnswers.{IsCompiledAs, IsCompileAnswerAs, translation_in}
 use Rattle.ido_compile.specs.LoggedTexts.{IsRefusedAs}
+use Rattle.ido_compile.specs.Verdicts.{NotBoth}
 use Rattle.log_schemes.specs.declared.log.Log.TheVariants.{V2}
 use Rattle.image_checks.specs.declared.error.ImageError.{ImageError}
 use Rattle.image_checks.specs.declared.error.ImageError.TheVariants as e
@@ -32,9 +38,9 @@ use Rattle.run_scripts.specs.Runs.{schedule_of}
 use Rattle.run_tracker.specs.ObjectLives.{Course, left_words, steps_in, variable_words_in, world_of}
 use Rattle.ido_cli.specs.declared.compiled_image.Begun.{Begun}
 use Rattle.ido_cli.specs.declared.compiled_image.Image.{Image}
-use Rattle.ido_cli.specs.CompiledImages.{BeginsCompiled, IsImage, IsImageAnswer, no_memory, whole}
-use Rattle.ido_cli.specs.Upgrades.{IsOlderFault, IsOlderImage, faulty, idle_logs, refused_anew, renewed_contents}
-use Rattle.ido_cli.specs.links.BegunImages.{HasBegun, IsAnewFault}
+use Rattle.ido_cli.specs.CompiledImages.{BeginsCompiled, IsImage, IsImageAnswer, whole}
+use Rattle.ido_cli.specs.Upgrades.{IsOlderFault, IsOlderImage, IsTakenAnew, faulty, idle_logs, refused_anew, renewed_contents, unknown}
+use Rattle.ido_cli.specs.links.BegunImages.{HasBegun, IsAnewFault, IsFirstFault}
 use Rattle.ido_cli.specs.links.CompileRefusals.{image_fault}
 use Rattle.ido_cli.specs.links.RecoveredLives.{CanRenew}
 use Rattle.ido_cli.proofs.LastLifeApart.{as_many_lives}
@@ -51,11 +57,25 @@ same_source newest bytes version other c d a b =
     subst (λ (v : ImageVersion). source_at v bytes ≡ Ok (a.source, a.rest)) versions a.begins in
     ap (λ (x : List ℕ × List ℕ). x.0) (ok_is (a.source, a.rest) (b.source, b.rest) (sym here ∙ b.begins))
 
+-- a fault before the source's end
+pub first_fault : (bytes : List ℕ) (error : ImageError) → IsFirstFault Second bytes error → IsOlderFault bytes error
+first_fault bytes error first = elim first.none [
+  | inl memory ↦ subst (λ (x : ImageError). IsOlderFault bytes x) (sym memory) unknown
+  | inr none ↦ faulty error first.answer (λ version c rule place begins refused. none version c begins)
+]
+
 module _ (bytes : List ℕ) (b : Begun) (h : HasBegun Second bytes b) where
+  -- one after it, where the source is accepted for the newest log
+  pub taken_anew : NotBoth → (again : Compiled) → IsCompiledAs V2 b.source.now again → IsTakenAnew bytes
+  taken_anew not_both again accepted version c rule place begins refused =
+      let same = same_source Second bytes version b.version c b.compiled begins h.is ∙ h.source in
+      not_both V2 b.source.now (flat_of again.flat) rule place accepted.accepted
+      (subst (λ (text : List ℕ). IsRefusedAs V2 text rule place) same refused)
+
   anew_by : (error : CompileError) → IsCompileAnswerAs V2 b.source.now (Err error) → IsOlderFault bytes (image_fault error)
   anew_by (compiling.Refused x) told =
       refused_anew b.version b.compiled x.rule x.place h.is (subst (λ (text : List ℕ). IsRefusedAs V2 text x.rule x.place) (sym h.source) told)
-  anew_by compiling.Memory told = faulty e.Memory no_memory
+  anew_by compiling.Memory told = unknown
 
   pub anew_fault : (x : ImageError) → IsAnewFault b.source.now x → IsOlderFault bytes x
   anew_fault x found = subst (λ (y : ImageError). IsOlderFault bytes y) (sym found.1) (anew_by found.0 found.2)
@@ -68,6 +88,23 @@ module _ (bytes : List ℕ) (b : Begun) (h : HasBegun Second bytes b) where
     again = again;
     accepted = accepted;
   }
+
+-- what is answered to bytes whose source is refused for the newest log
+module _ (not_both : NotBoth) (bytes : List ℕ) (version : ImageVersion) (c : Compiled) (rule : Rule) (place : Place)
+    (begins : BeginsCompiled Second bytes version c) (refused : IsRefusedAs V2 begins.source rule place) where
+  not_older_image : (image : Image) (source : List ℕ) → IsOlderImage bytes image source → ⊥
+  not_older_image image source older =
+      let same = same_source Second bytes version older.is.version c image.compiled begins older.is.is.source ∙ older.source_is in
+      not_both V2 source (flat_of older.again.flat) rule place older.accepted.accepted
+      (subst (λ (text : List ℕ). IsRefusedAs V2 text rule place) same refused)
+
+  pub source_comes_first : (turns status : ℕ) (output : List ℕ) → UpgradeAnswer turns bytes status output →
+      (status ≡ 6) × (output ≡ line (codes "refused I4"))
+  source_comes_first turns status output (of_older image source older runs said) = absurd (not_older_image image source older)
+  source_comes_first turns status output (not_older error (faulty x answer taken) six told) = absurd (taken version c rule place begins refused)
+  source_comes_first turns status output (not_older error (refused_anew v d r p b told_refused) six told) =
+      (six, same_Some output (line (codes "refused I4")) (sym told))
+  source_comes_first turns status output (not_older error unknown six told) = absurd (none-some output told)
 
 -- ---- There is one life
 

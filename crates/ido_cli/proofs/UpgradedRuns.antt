@@ -1,7 +1,8 @@
 -- What `recover` says of an image that `upgrade` wrote.
-use Rattle.std.proofs.Common.{◌≡◌, Bool, ℕ, ◌+◌, ◌*◌, ◌≤◌, List, [], ◌∷◌, ◌++◌, length, map, take, drop, Some, None, true, false}
+use Rattle.std.proofs.Common.{◌≡◌, Bool, ℕ, ◌+◌, ◌*◌, ◌<◌, ◌≤◌, Option, List, [], ◌∷◌, ◌++◌, length, map, take, drop, Some, None, true, false}
 use Rattle.std.proofs.Common.{refl, ap, ap₂, sym, subst, ◌∙◌, arith, Ok, Err, ℤ}
-use Rattle.std.specs.Prelude.{if◌then◌else◌, sum_by}
+use Rattle.std.specs.Prelude.{◌==◌, ◌&&◌, if◌then◌else◌, nat_lt, sum_by}
+use Rattle.std.proofs.lemmas.Bool.{ltb-false}
 use Rattle.std.proofs.lemmas.List.{length-map, length-replicate, length-take-le}
 use Rattle.std.proofs.lemmas.Option.{none-some}
 use Rattle.machine_events.specs.declared.event.Event.{Event}
@@ -27,8 +28,9 @@ use Rattle.flow_graph.specs.Lowering.{lowered}
 use Rattle.file_fields.specs.Fields.{Fault, ◌>>=◌}
 use Rattle.file_fields.proofs.Public.{bind_ok, ok_is}
 use Rattle.variable_words.specs.Variables.{durable_variables}
-use Rattle.hart_driver.specs.Legs.{IsLeg, IsTurn, has_ended}
-use Rattle.hart_driver.specs.declared.stop.Stop.TheVariants.{Ended, Turns}
+use Rattle.hart_driver.specs.Legs.{IsLeg, IsTurn, Leg, has_ended, made, stop_of}
+use Rattle.hart_driver.specs.declared.stop.Stop.{Stop}
+use Rattle.hart_driver.specs.declared.stop.Stop.TheVariants.{Ended, Moment, Turns}
 use Rattle.compiler_correctness.specs.Images as files
 use Rattle.compiler_correctness.specs.Images.{IsResumedAsKept, first_from, image_in, steps_from, variable_words, world_from}
 use Rattle.compiler_correctness.specs.Laws.{ImagesAreCrashes}
@@ -57,6 +59,7 @@ use Rattle.ido_cli.specs.CompiledImages.{BeginsCompiled, HasState, IsFaultAfter,
 use Rattle.ido_cli.specs.CompiledImages.{threads_of, unsound, whole}
 use Rattle.ido_cli.specs.CompiledImages as answers
 use Rattle.ido_cli.specs.Laws.{UpgradesAreRecovered}
+use Rattle.run_tracker.specs.ObjectLives.{LifeConfig, is_stopped}
 use Rattle.ido_cli.specs.Recoveries.{IsRecovery, recovering}
 use Rattle.ido_cli.specs.Refusals.{image_line}
 use Rattle.ido_cli.specs.Reports.{machine_state, unsettled_harts}
@@ -64,7 +67,7 @@ use Rattle.ido_cli.specs.Runs.{IsReport, named}
 use Rattle.ido_cli.specs.ThreadedRuns.{leg_after}
 use Rattle.ido_cli.specs.Upgrades.{IsUpgradeSaid, idle_logs, renewed, renewed_contents, too_long, unfinished}
 use Rattle.ido_cli.proofs.CompiledLimits.{ready}
-use Rattle.ido_cli.proofs.IdleWorlds.{all_settled, own_stays}
+use Rattle.ido_cli.proofs.IdleWorlds.{all_settled, all_stopped, own_stays}
 use Rattle.ido_cli.proofs.PlayedRuns.{has_room, sound_along}
 use Rattle.ido_cli.proofs.RecoveredRuns.{spread_size, words_in}
 use Rattle.ido_cli.proofs.RunImageAnswers.{initial_size, none_after, not_both_ways, one_after, thread_number}
@@ -72,21 +75,40 @@ use Rattle.ido_cli.proofs.SameVariables.{same_variables}
 use Rattle.ido_cli.proofs.SettledReports.{none_by_settled, none_by_status, settled_by_none}
 use Rattle.ido_cli.proofs.UpgradedImages.{take_first}
 
--- ---- A leg without turns
+-- ---- A leg whose harts have all stopped before it
 
-stopped_now : (ended : Bool) → (if ended then Some Ended else Some Turns) ≡ None → ⊥
-stopped_now true none = cc none
-stopped_now false none = cc none
+is_below : (h n : ℕ) → h < n → nat_lt h n ≡ true
+is_below h n below =
+    let by : (b : Bool) → nat_lt h n ≡ b → b ≡ true = λ b. elim b as (λ b. nat_lt h n ≡ b → b ≡ true) [
+      | true ↦ λ e. refl
+      | false ↦ λ e. absurd (omega (arith, ltb-false h n e, below))
+    ] in
+    by (nat_lt h n) refl
 
-module _ (c : Translation) (file : files.Image) where
-  no_first : (event : Event) → IsTurn (leg_after (recovering c file) 0 None [] None) [] event → ⊥
-  no_first (Step hart) turn = stopped_now (has_ended (leg_after (recovering c file) 0 None [] None) hart []) turn.1
-  no_first (Evict line mask) turn =
-      stopped_now (has_ended (leg_after (recovering c file) 0 None [] None) (length (recovering c file).runs.program) []) turn.2
+no_more : (none : Bool) (n : ℕ) → n < (if none then 0 else n + 0) → ⊥
+no_more true n more = absurd (omega (arith, more))
+no_more false n more = absurd (omega (arith, more))
+
+module _ (c : Translation) (file : files.Image) (turns : ℕ)
+    (stopped : (h : ℕ) → h < length c.runs.program → is_stopped (first_from c (image_in c file)) h ≡ true) where
+  abbrev idle_leg : Leg LifeConfig
+  idle_leg = leg_after (recovering c file) turns None [] None
+
+  stopped_now : (hart : ℕ) → hart < length c.runs.program → stop_of idle_leg hart [] ≡ None → ⊥
+  stopped_now hart below none =
+      let ended : has_ended idle_leg hart [] ≡ true =
+      ap₂ (λ (a b : Bool). a && b) (is_below hart (length c.runs.program) below) (stopped hart below) in
+      let rest : Option Stop = if made idle_leg hart [] == turns then Some Turns else (if length {A = Event} [] == idle_leg.most then Some Moment else None) in
+      let has : stop_of idle_leg hart [] ≡ Some Ended = ap (λ (b : Bool). if b then Some Ended else rest) ended in
+      none-some Ended (sym none ∙ has)
+
+  no_first : (event : Event) → IsTurn idle_leg [] event → ⊥
+  no_first (Step hart) turn = stopped_now hart turn.0 turn.1
+  no_first (Evict line mask) turn = no_more (length c.runs.program == 0) (length c.runs.program) turn.0
   no_first Crash turn = turn
   no_first Start turn = turn
 
-  no_event : (journal : List Event) → IsLeg (leg_after (recovering c file) 0 None [] None) journal → journal ≡ []
+  no_event : (journal : List Event) → IsLeg idle_leg journal → journal ≡ []
   no_event [] leg = refl
   no_event (event ∷ events) leg = absurd (no_first event (leg.each [] events event refl))
 
@@ -329,11 +351,17 @@ module _ (one_flat : OneFlat) (never_both : NotBoth) (output source : List ℕ) 
         } in s)
         same_unsettled same_values
 
-    report_same : (status : ℕ) (report : List ℕ) → IsRecovery it (file_in image) 0 status report → IsReport (machine_state flat w kept) status report
-    report_same status report recovery =
+    -- no hart makes a step
+    stopped : (h : ℕ) → h < length it.runs.program → is_stopped (first_from it (image_in it (file_in image))) h ≡ true
+    stopped h below =
+        ap (λ (v : World). is_stopped v h) first_is
+        ∙ all_stopped variables (log_words V2 * threads) few it.runs.log it.runs.program it.runs.mutexes h below
+
+    report_same : (more status : ℕ) (report : List ℕ) → IsRecovery it (file_in image) more status report → IsReport (machine_state flat w kept) status report
+    report_same more status report recovery =
         let im = image_in it (file_in image) in
         let at_once = subst (λ (es : List Event). IsReport (machine_state it.flat (world_from it im es) (schedules (steps_from it im es))) status report)
-        (no_event it (file_in image) recovery.journal recovery.leg) recovery.reported in
+        (no_event it (file_in image) more stopped recovery.journal recovery.leg) recovery.reported in
         let of_world = subst (λ (x : World). IsReport (machine_state it.flat x (all_lives (file_in image).kept)) status report) first_is at_once in
         let of_lives = subst (λ (ls : List (List ℕ)). IsReport (machine_state it.flat first ls) status report) lives_same of_world in
         let of_form = subst (λ (x : Flat). IsReport (machine_state x first kept) status report) same_form of_lives in
@@ -344,9 +372,9 @@ module _ (one_flat : OneFlat) (never_both : NotBoth) (output source : List ℕ) 
       let none : image_line e.Memory ≡ Some report = subst (λ (x : ImageError). image_line x ≡ Some report) (none_told error told) line in
       none-some report none
 
-  recovered_as : (status : ℕ) (report : List ℕ) → RecoverAnswer 0 output status report → IsReport (machine_state flat w kept) status report
-  recovered_as status report (no_image error told six line) = absurd (not_told status report error told line)
-  recovered_as status report (of_image image (whole read is) on recovery) = report_same image is status report recovery
+  recovered_as : (more status : ℕ) (report : List ℕ) → RecoverAnswer more output status report → IsReport (machine_state flat w kept) status report
+  recovered_as more status report (no_image error told six line) = absurd (not_told status report error told line)
+  recovered_as more status report (of_image image (whole read is) on recovery) = report_same image is more status report recovery
 
 -- ---- A world that a run from an image comes to
 
@@ -399,7 +427,7 @@ module _ (input : List ℕ) (image : Image) (is : IsImage Second input image) (j
       (references (log_of is.version) (flat_of x.flat) t.object t.marks t.cuts events of_source.translated))
 
 pub upgrades_are_recovered : OneFlat → NotBoth → RunsLeaveReferences → ImagesAreCrashes → UpgradesAreRecovered
-upgrades_are_recovered one_flat never_both references crashes input output image source before turns status report older same u told =
+upgrades_are_recovered one_flat never_both references crashes input output image source before turns more status report older same u told =
     let made = image.compiled in
     let c = translation_in made in
     let im = image_in c (file_in image) in
@@ -409,6 +437,7 @@ upgrades_are_recovered one_flat never_both references crashes input output image
     let v = older.is.version in
     let compiled = subst (λ (text : List ℕ). IsCompiledAs (log_of v) text made) older.source_is older.is.is.source.compiled in
     let resumed = subst (λ (file : files.Image). IsResumedAsKept c (image_in c file) u.journal) (sym same) (compiled.compilation.files before u.journal) in
-    recovered_as one_flat never_both output source made v compiled older.again older.accepted w
+    u.goes_on before same status report
+    (recovered_as one_flat never_both output source made v compiled older.again older.accepted w
     (came_right input image older.is u.journal references crashes before same) (came_long input image older.is u.journal) kept out.1 resumed.runs out.0 out.2
-    status report told
+    more status report told)

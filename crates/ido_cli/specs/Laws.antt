@@ -1,10 +1,19 @@
 -- What words and an input are answered is at most one thing; an image that `image` wrote is recovered from, and a journal is played.
-use Rattle.std.specs.Prelude.{◌≡◌, ◌≤◌, ℕ, List, All, length, true, Option, Some, None}
+use Rattle.std.specs.Prelude.{◌≡◌, ◌≤◌, ℕ, List, ◌∷◌, ◌++◌, All, length, true, Option, Some, None, codes, if◌then◌else◌}
 use Rattle.machine_events.specs.declared.event.Event.{Event}
+use Rattle.machine_events.specs.declared.event.Event.TheVariants.{Crash}
 use Rattle.machine_events.specs.Cores.{IsValidNow}
 use Rattle.ido_base.specs.declared.limits.TheConstants.{MOST_EVENTS}
 use Rattle.c_tree.specs.Flats.{Flat}
-use Rattle.ido_compile.specs.LoggedTexts.{IsAcceptedAs}
+use Rattle.ido_base.specs.declared.place.Place.{Place}
+use Rattle.c_tree.specs.declared.rule.Rule.{Rule}
+use Rattle.crash_images.specs.declared.version.ImageVersion.{ImageVersion}
+use Rattle.crash_images.specs.declared.version.ImageVersion.TheVariants.{Second}
+use Rattle.log_schemes.specs.declared.log.Log.TheVariants.{V2}
+use Rattle.ido_compile.specs.declared.compiler.Compiled.{Compiled}
+use Rattle.ido_compile.specs.LoggedTexts.{IsAcceptedAs, IsRefusedAs}
+use Rattle.run_scripts.specs.Reports.{line}
+use Rattle.ido_cli.specs.CompiledImages.{BeginsCompiled}
 use Rattle.flat_compile.specs.TranslatedForms.{command_log}
 use Rattle.compiler_correctness.specs.Translations.{Translation}
 use Rattle.run_scripts.specs.Journals.{ends_line, journal_text}
@@ -18,14 +27,10 @@ use Rattle.ido_cli.specs.Inputs.{source_of, rest_of}
 use Rattle.ido_cli.specs.Plays.{IsRunBy, IsTranslationOf, beginning}
 use Rattle.run_tracker.specs.ObjectLives.{living}
 use Rattle.ido_cli.specs.Recoveries.{IsRecoveredRun}
-use Rattle.ido_cli.specs.Answers.{Answer, IsPastLimits, PlayAnswer, RecoverAnswer, file_in}
-use Rattle.machine_model.specs.Schedule.{schedules}
-use Rattle.compiler_correctness.specs.Images.{image_in, steps_from, world_from}
+use Rattle.ido_cli.specs.Answers.{Answer, IsPastLimits, PlayAnswer, RecoverAnswer, UpgradeAnswer, file_in}
 use Rattle.ido_compile.specs.CompileAnswers.{translation_in}
 use Rattle.image_checks.specs.RunImages.{left_by}
 use Rattle.ido_cli.specs.declared.compiled_image.Image.{Image}
-use Rattle.ido_cli.specs.Reports.{machine_state}
-use Rattle.ido_cli.specs.Runs.{IsReport}
 use Rattle.ido_cli.specs.Upgrades.{IsOlderImage, IsUpgrade}
 
 -- what is written stands on no compilation, nor on how threads ran
@@ -86,19 +91,27 @@ RunsAreRecovered = (source image : List ℕ) (flat : Flat) (c : Translation) (be
     IsAcceptedAs command_log source flat → IsTranslationOf flat c → length before ≤ MOST_EVENTS → IsImageAfter source c before status image →
     RecoverAnswer turns image answer output → IsRecoveredRun source c before turns answer output
 
--- What `upgrade` writes of an image that a run of the translation to which its source is compiled has left, is recovered as what it is: with no turn more the
--- report is that of the machine and of the schedules to which `upgrade` came.
+-- What `upgrade` writes of an image that a run of the translation to which its source is compiled has left is recovered as what it is, whatever turns are
+-- given: what is said is what `play` says of the events of that run, a crash, and the leg of `upgrade`.
 abbrev pub UpgradesAreRecovered : Type 0
-UpgradesAreRecovered = (input output : List ℕ) (image : Image) (source : List ℕ) (before : List Event) (turns status : ℕ) (report : List ℕ) →
+UpgradesAreRecovered = (input output : List ℕ) (image : Image) (source : List ℕ) (before : List Event) (turns more status : ℕ) (report : List ℕ) →
     IsOlderImage input image source → let c = translation_in image.compiled in file_in image ≡ left_by c before →
-    (u : IsUpgrade source c (file_in image) turns 0 output) → RecoverAnswer 0 output status report →
-    IsReport (machine_state c.flat (world_from c (image_in c (file_in image)) u.journal) (schedules (steps_from c (image_in c (file_in image)) u.journal)))
-    status report
+    (u : IsUpgrade source c (file_in image) turns 0 output) → RecoverAnswer more output status report →
+    IsRunBy c (before ++ Crash ∷ u.journal) status report
 
--- a source that ends with an LF, and in which no line is `%%`
-pub record IsAlone (source : List ℕ) : Type 0 where
-  pub ends : ends_line source ≡ true
-  pub whole : source_of source ≡ source
+-- An image of an older version whose source is refused for the newest log is answered so, whatever else is wrong with it: the source comes first.
+abbrev pub OlderSourcesComeFirst : Type 0
+OlderSourcesComeFirst = (turns : ℕ) (input : List ℕ) (version : ImageVersion) (c : Compiled) (rule : Rule) (place : Place) →
+    (begins : BeginsCompiled Second input version c) → IsRefusedAs V2 begins.source rule place → (status : ℕ) (output : List ℕ) →
+    UpgradeAnswer turns input status output → (status ≡ 6) × (output ≡ line (codes "refused I4"))
+
+-- with an LF at its end
+abbrev pub in_lines : (source : List ℕ) → List ℕ
+in_lines source = if ends_line source then source else line source
+
+-- a source of which no line is `%%`, also not the last one where an LF is put behind it
+abbrev pub IsAlone : (source : List ℕ) → Type 0
+IsAlone source = source_of (in_lines source) ≡ in_lines source
 
 -- a journal of events of such a source, whose starts each of its translations may make, is answered by `play` with what is said of these events
 abbrev pub JournalsArePlayed : Type 0

@@ -1,6 +1,7 @@
 -- What is said of a run of a compiled source by a script.
-use Rattle.std.specs.Prelude.{◌≡◌, ℕ, ◌+◌, ◌≤◌, List, [], ◌++◌, length, map, Bool, true, false, Some, None, ◌==◌, if◌then◌else◌}
+use Rattle.std.specs.Prelude.{◌≡◌, ℕ, ◌+◌, ◌≤◌, List, [], ◌∷◌, ◌++◌, length, map, Bool, true, false, Some, None, ◌==◌, slice_get, if◌then◌else◌}
 use Rattle.machine_events.specs.declared.event.Event.{Event}
+use Rattle.machine_events.specs.declared.event.Event.TheVariants.{Start}
 use Rattle.machine_events.specs.Cores.{finished_fences}
 use Rattle.ido_base.specs.declared.limits.TheConstants.{MOST_EVENTS}
 use Rattle.c_tree.specs.Flats as f
@@ -9,7 +10,7 @@ use Rattle.source_machine.specs.Lives.{after_lives, runs_lives}
 use Rattle.machine_model.specs.declared.object.Object.{Object}
 use Rattle.rv64_isa.specs.declared.object.Marks.{Marks}
 use Rattle.machine_model.specs.Executables.{first_world}
-use Rattle.machine_model.specs.Machine.{numbers_from}
+use Rattle.machine_model.specs.Machine.{can_start, numbers_from}
 use Rattle.machine_model.specs.Schedule.{only_life, schedules}
 use Rattle.flow_graph.specs.declared.cuts.Cuts.{Cuts}
 use Rattle.flat_compile.specs.TranslatedForms.{IsTranslated}
@@ -38,6 +39,7 @@ abbrev pub beginning : Translation → LifeConfig
 beginning c = record {
   runs = c.runs;
   kept_before = only_life [];
+  ended_before = [];
   world = first_world c.runs;
 }
 
@@ -52,15 +54,26 @@ pub record IsSourceRun (flat : f.Flat) (schedules : List (List ℕ)) (output : L
   pub between : (thread : ℕ) → is_between (after_lives flat (start flat) schedules) thread ≡ true
   pub output_is : output ≡ report (run_state flat schedules)
 
+-- A life of the run that events make: those up to the start by which another life begins, or of the life that goes on all of them.
+pub data IsLife (c : Translation) (events : List Event) : (until : List Event) → Type 0 where
+  followed : (until rest : List Event) → events ≡ until ++ Start ∷ rest → can_start (world c until) ≡ true → IsLife c events until
+  last : IsLife c events events
+
+-- of each life its schedule is told, and that holds each section which a hart has left in the life, before whatever crash, and at most one more of its thread
+pub record AreLivesKept (c : Translation) (events : List Event) : Type 0 where
+  pub schedule : (until : List Event) → IsLife c events until →
+      slice_get (schedules (steps c events)) (length (steps c until).earlier) ≡ Some (steps c until).kept
+  pub sections : (until : List Event) → IsLife c events until → AreSectionsKept c until
+
 -- The report of the machine after the events, whatever steps, evictions and crashes they are: status 0, and its durable variables, the ended sections and
 -- the kept schedules, one for each life, exactly where each hart is settled, else status 3 and the harts that aren't.
 -- At status 0 the output is that of the source's own run of the very schedules that are printed. Settled or not, the source can be stepped by the whole of the
--- kept schedules, and they hold each section that a hart has left, before whatever crash.
+-- kept schedules, and each of them holds each section that a hart has left in that life, before whatever crash.
 pub record IsRunBy (c : Translation) (events : List Event) (status : ℕ) (output : List ℕ) : Type 0 where
   pub reported : IsReport (machine_state c.flat (world c events) (schedules (steps c events))) status output
   pub runs : runs_lives c.flat (start c.flat) (schedules (steps c events)) ≡ true
   pub settled : status ≡ 0 → IsSourceRun c.flat (schedules (steps c events)) output
-  pub sections : AreSectionsKept c events
+  pub sections : AreLivesKept c events
 
 -- how many fences each hart has finished by the events, in all lives: before crashes, in recoveries, and in sections that were lost
 abbrev pub fences_by : Translation → List Event → List ℕ

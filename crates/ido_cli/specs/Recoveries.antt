@@ -21,11 +21,13 @@ use Rattle.ido_cli.specs.Reports.{machine_state}
 use Rattle.ido_cli.specs.Runs.{IsReport}
 use Rattle.ido_cli.specs.ThreadedRuns.{leg_after}
 
--- the machine of a translation before any event, where power returns over the words of a file
+-- The machine of a translation before any event, where power returns over the words of a file. Nobody tells it how many sections have ended by its schedules:
+-- the report runs the source.
 abbrev pub recovering : Translation → (file : Image) → LifeConfig
 recovering c file = record {
   runs = c.runs;
   kept_before = file.kept;
+  ended_before = [];
   world = first_from c (image_in c file);
 }
 

@@ -1,6 +1,7 @@
 -- What is said of an image of an older version that is brought to the newest: recovered first, so that every thread stands between sections.
-use Rattle.std.specs.Prelude.{◌≡◌, ℕ, ◌+◌, ◌*◌, ◌<◌, ◌≤◌, List, [], length, map, replicate, sum_by, take, true, false, None, Err, codes}
+use Rattle.std.specs.Prelude.{◌≡◌, ℕ, ◌+◌, ◌*◌, ◌<◌, ◌≤◌, List, [], ◌∷◌, ◌++◌, length, map, replicate, sum_by, take, true, false, None, Err, codes}
 use Rattle.machine_events.specs.declared.event.Event.{Event}
+use Rattle.machine_events.specs.declared.event.Event.TheVariants.{Crash}
 use Rattle.ido_base.specs.declared.limits.TheConstants.{MOST_STEPS}
 use Rattle.log_schemes.specs.declared.log.Log.TheVariants.{V2}
 use Rattle.ido_base.specs.declared.place.Place.{Place}
@@ -10,7 +11,7 @@ use Rattle.c_tree.specs.declared.rule.Rule.{Rule}
 use Rattle.machine_model.specs.Machine.{World, is_settled}
 use Rattle.machine_model.specs.Schedule.{schedules}
 use Rattle.compiler_correctness.specs.Images as left
-use Rattle.compiler_correctness.specs.Images.{image_in, steps_from, variable_words, world_from}
+use Rattle.compiler_correctness.specs.Images.{file_of, image_in, image_of, steps_from, variable_words, world_from}
 use Rattle.compiler_correctness.specs.Translations.{Translation}
 use Rattle.hart_driver.specs.Legs.{IsLeg}
 use Rattle.ido_compile.specs.declared.compiler.Compiled.{Compiled}
@@ -25,6 +26,7 @@ use Rattle.image_checks.specs.declared.error.ImageError.{ImageError}
 use Rattle.image_checks.specs.declared.error.ImageError.TheVariants as e
 use Rattle.ido_cli.specs.declared.compiled_image.Image.{Image}
 use Rattle.ido_cli.specs.CompiledImages.{BeginsCompiled, IsImage, IsImageAnswer}
+use Rattle.ido_cli.specs.Plays.{IsRunBy}
 use Rattle.ido_cli.specs.Recoveries.{recovering}
 use Rattle.ido_cli.specs.Refusals.{line_at_step}
 use Rattle.ido_cli.specs.Reports.{machine_state}
@@ -40,12 +42,20 @@ pub record IsOlderImage (bytes : List ℕ) (image : Image) (source : List ℕ) :
   pub again : Compiled
   pub accepted : IsCompiledAs V2 source again
 
+-- where the bytes begin with a source that is compiled for the log of its version, it isn't refused for the newest one
+abbrev pub IsTakenAnew : (bytes : List ℕ) → Type 0
+IsTakenAnew bytes = (version : ImageVersion) (c : Compiled) (rule : Rule) (place : Place) → (begins : BeginsCompiled Second bytes version c) →
+    IsRefusedAs V2 begins.source rule place → ⊥
+
 -- the first fault of bytes that are none
 pub data IsOlderFault (bytes : List ℕ) : ImageError → Type 0 where
-  faulty : (error : ImageError) → IsImageAnswer Second bytes (Err error) → IsOlderFault bytes error
+  -- one of an image of its version; it stands before the source's end, or the source is accepted for the newest log too
+  faulty : (error : ImageError) → IsImageAnswer Second bytes (Err error) → IsTakenAnew bytes → IsOlderFault bytes error
   -- the bytes up to the end of the source have none, but the source is refused for the newest log
   refused_anew : (version : ImageVersion) (c : Compiled) (rule : Rule) (place : Place) (begins : BeginsCompiled Second bytes version c) →
       IsRefusedAs V2 begins.source rule place → IsOlderFault bytes e.Source
+  -- want of memory tells nothing
+  unknown : IsOlderFault bytes e.Memory
 
 -- ---- What is said
 
@@ -73,3 +83,8 @@ pub record IsUpgrade (source : List ℕ) (c : Translation) (file : left.Image) (
   pub journal : List Event
   pub leg : IsLeg (leg_after (recovering c file) turns None [] None) journal
   pub said : IsUpgradeSaid source c (world_from c (image_in c file) journal) (schedules (steps_from c (image_in c file) journal)) status output
+  -- Where the file is what a crash leaves after events of the same translation, the report of that machine is what `play` says of these events, a crash, and
+  -- the leg.
+  pub goes_on : (before : List Event) → file ≡ file_of c (image_of c before) → (found : ℕ) (report : List ℕ) →
+      IsReport (machine_state c.flat (world_from c (image_in c file) journal) (schedules (steps_from c (image_in c file) journal))) found report →
+      IsRunBy c (before ++ Crash ∷ journal) found report

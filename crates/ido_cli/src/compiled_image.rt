@@ -23,6 +23,7 @@ use crash_images::state::State;
 use crash_images::version::ImageVersion;
 use file_fields::error::ReadError;
 use ido_base::memory::OutOfMemory;
+use ido_compile::laws::one_verdict;
 use ido_compile::{CompileError, Compiled, compile_as};
 use image_checks::error::ImageError;
 use image_checks::references::check_references;
@@ -163,6 +164,7 @@ pub fn begin<'a>(
     requires { length bytes.now ≤ MOST_INPUT_BYTES }
     ensures { IsBegun newest bytes.now result }
 {
+    one_verdict();
     let version = read_version(bytes, newest)?;
     let (source, rest) = read_source(bytes, version)?;
     let compiled = compiled_source(alloc, version.log(), source)?;

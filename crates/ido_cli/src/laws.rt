@@ -1,8 +1,8 @@
 //! Laws of what is answered: nothing is computed here.
-ghost use Rattle.ido_cli.specs.CompiledLives.{LivesAreCompiled, LivesOfFilesAreCompiled};
+ghost use Rattle.ido_cli.specs.CompiledLives.{LivesAreCompiled, LivesCountSections, LivesOfFilesAreCompiled, LivesOfFilesCountSections};
 ghost use Rattle.ido_cli.specs.ImagesReadAgain.{RunImagesAreRead};
-ghost use Rattle.ido_cli.specs.OrderedLives.{OrderedLivesGoOn};
-ghost use Rattle.ido_cli.specs.Laws.{JournalsArePlayed, OneAnswer, RunsAreRecovered, UpgradesAreRecovered};
+ghost use Rattle.ido_cli.specs.OrderedLives.{OrderedLivesGoOn, OrderedLivesOfFilesGoOn};
+ghost use Rattle.ido_cli.specs.Laws.{JournalsArePlayed, OlderSourcesComeFirst, OneAnswer, RunsAreRecovered, UpgradesAreRecovered};
 
 use compiler_correctness::laws::{images_are_crashes, machines_record};
 use crash_simulation::laws::machines_resume;
@@ -33,10 +33,23 @@ pub fn lives_are_compiled()
     files_begin();
 }
 
+/// A life of a compiled text counts what the source ends by its kept schedules: `ended` is that number of each thread, from the text's start on; and from the
+/// file of a run of the same translation on, where `of_words` was told the number that the source ends by the schedules of that file.
+pub fn lives_count_sections()
+    ensures starts { LivesCountSections }
+    ensures files { LivesOfFilesCountSections }
+{
+    files_begin();
+    images_are_crashes();
+    lives_are_compiled();
+}
+
 /// A life of a text that `order` calls ordered comes to no standstill: after every list of events, steps, evictions and crashes in any
-/// order, `can_step` finds a hart unless each has ended or is done with its recovery. It says nothing of threads of the host.
+/// order, `can_step` finds a hart unless each has ended or is done with its recovery. So it is where it begins with the file of a run of the same
+/// translation, and for whichever log the text was compiled. It says nothing of threads of the host.
 pub fn ordered_lives_go_on()
-    ensures { OrderedLivesGoOn }
+    ensures starts { OrderedLivesGoOn }
+    ensures files { OrderedLivesOfFilesGoOn }
 {
     lives_are_compiled();
     none_deadlocks();
@@ -62,7 +75,8 @@ pub fn runs_are_recovered()
 }
 
 /// What `upgrade` writes of an image that a run has left, where its source was compiled to the translation of that run again, is read by `recover` as what
-/// it is: it is never refused, and with no turn more the report is that of the machine and of the schedules to which `upgrade` came.
+/// it is, to whatever translation its source is compiled then: it is never refused, and with whatever turns what is said is what `play` says of the events
+/// of that run, a crash, and the leg of `upgrade`. Each thread stands between sections there, so that no hart makes a step more.
 pub fn upgrades_are_recovered()
     ensures { UpgradesAreRecovered }
 {
@@ -71,8 +85,16 @@ pub fn upgrades_are_recovered()
     runs_leave_no_fault();
 }
 
-/// What `live --journal` writes of a source that ends with an LF and has no line `%%` is an input of `play`, which answers it with the report of the very
-/// events that are told: it is refused nowhere, and the source is compiled again, to which translation isn't said.
+/// `upgrade` refuses an image of an older version whose source is refused for the newest log by I4, whatever stands after the source.
+pub fn older_sources_come_first()
+    ensures { OlderSourcesComeFirst }
+{
+    one_verdict();
+}
+
+/// What `live --journal` writes of a source that has no line `%%` is an input of `play`, which answers it with the report of the very events that are told:
+/// it is refused nowhere, and the source is compiled again, to which translation isn't said. A source that doesn't end with an LF has one then, and is
+/// accepted with it as it is without; only where that makes it longer than a source may be, the input is past the limits.
 pub fn journals_are_played()
     ensures { JournalsArePlayed }
 {

@@ -102,6 +102,7 @@ pub fn recovered_life<R: Threads + Wait + Sync, G: Gate + Sync>(
         &image.words,
         &image.lives.earlier,
         &image.lives.schedule,
+        &[],
         most,
     )?;
     let none: Option<Evictor> = None;

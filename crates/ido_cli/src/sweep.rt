@@ -10,7 +10,7 @@ ghost use Rattle.ido_cli.specs.Answers.{SweepAnswer};
 ghost use Rattle.ido_cli.specs.Plays.{events_by};
 ghost use Rattle.ido_cli.specs.Refusals.{IsRefusedAt, play_fault_code, play_fault_place};
 ghost use Rattle.run_scripts.specs.links.ScriptViews as scripts;
-ghost use Rattle.ido_cli.specs.Sweeps.{IsSweep, IsTable, SweptScript, are_settled, most_sweep_events, reports_of, status_of};
+ghost use Rattle.ido_cli.specs.Sweeps.{IsSweep, IsTable, SweptScript, are_settled, reports_of, status_of};
 ghost use Rattle.ido_cli.specs.links.CrashPoints.{CanSweep, HasAllPoints, HasLivedTo, HasPoint, IsCounted, IsOutcomeAt, lines_in, translation_at};
 
 use crate::play::script_refused;
@@ -133,8 +133,7 @@ fn all_outcomes<R: Threads + Sync, G: Gate + Sync>(
     last: u32,
     gate: &G,
 ) -> Result<Vec<Outcome>, OutOfMemory>
-    requires few { last ≤ most_sweep_events }
-    requires points { (k : ℕ) → k ≤ last → HasPoint points.now k }
+    requires { (k : ℕ) → k ≤ last → HasPoint points.now k }
     ensures { IfOk result (λ outcomes. AreOutcomes (IsOutcomeAt points.now) 0 (last + 1) outcomes.items) }
 {
     are_shared(points);

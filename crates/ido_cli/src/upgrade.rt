@@ -12,6 +12,7 @@ ghost use Rattle.crash_images.specs.ImageEncoder.{spelling};
 ghost use Rattle.crash_images.specs.declared.version.ImageVersion.TheVariants.{Third};
 ghost use Rattle.flat_compile.specs.TranslatedForms.{IsTranslatedAs};
 ghost use Rattle.log_schemes.specs.declared.log.Log.TheVariants.{V2};
+ghost use Rattle.compiler_correctness.specs.Compilations.{IsCompilation};
 ghost use Rattle.ido_compile.specs.CompileAnswers.{IsCompiledAs, translation_in};
 ghost use Rattle.run_tracker.specs.ObjectLives.{left_words, steps_in, variable_words_in, world_of};
 ghost use Rattle.ido_cli.specs.Answers.{UpgradeAnswer, file_in};
@@ -25,10 +26,12 @@ use crate::recover::{image_refused, recovered_life};
 use crate::refusal::refused_at_step;
 use crate::report::say_by_source;
 use crate::said::Said;
+use compiler_correctness::laws::images_are_crashes;
 use crash_images::version::ImageVersion;
 use crash_images::writing::write_image;
 use ido_base::limits::MOST_STEPS;
 use ido_base::memory::OutOfMemory;
+use ido_compile::laws::one_verdict;
 use ido_outside::Gate;
 use image_checks::error::ImageError;
 use image_runs::laws::shapes_run_on;
@@ -64,6 +67,7 @@ fn read_older<'a>(alloc: Global, bytes: &'a [u8]) -> Result<Older<'a>, ImageErro
     ensures { MatchResult result (λ older. IsOlderImage bytes.now older.image older.source.now × (length older.source.now ≤ MOST_SOURCE_BYTES))
         (λ error. IsOlderFault bytes.now error) }
 {
+    one_verdict();
     let begun = begin(alloc, bytes, ImageVersion::Second)?;
     let source = begun.source;
     accept_anew(alloc, source)?;
@@ -161,12 +165,14 @@ fn upgraded<R: Threads + Wait + Sync, G: Gate + Sync>(
     requires alone { older.now.image.lives.earlier.items ≡ [] }
     requires translated { let made = older.now.image.compiled.translated in
         IsTranslatedAs made.object.log (flat_of older.now.image.compiled.flat) made.object made.marks made.cuts }
+    requires compilation { IsCompilation (translation_in older.now.image.compiled) }
     requires steps { sum_by length (all_lives (file_in older.now.image).kept) ≤ MOST_STEPS }
     requires words { let object = older.now.image.compiled.translated.object in
         length older.now.image.words.items ≡ length object.initial.items / 8 + log_words object.log * length object.code.items }
     ensures { IfOk result (λ said.
         IsUpgrade older.now.source.now (translation_in older.now.image.compiled) (file_in older.now.image) turns said.status said.output.items) }
 {
+    images_are_crashes();
     let life = recovered_life(rt, alloc, &older.image, turns, gate)?;
     life_said(alloc, older.source, &older.image, &life)
 }

@@ -7,3 +7,4 @@ mod LiftedTokens
 mod PlainTrees
 mod Verdicts
 mod Translations
+mod SourceLives

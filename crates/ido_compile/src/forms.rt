@@ -22,8 +22,9 @@ pub fn flattened_is_plain()
     flat_is_plain();
 }
 
-/// In every run of a text that is accepted for a log, values keep to their kinds, each value that a step evaluates lies in its
-/// range, no index is out of range, and no reference that is followed is null or leads out of its array.
+/// In all lives of a text that is accepted for a log, however many there are and by whatever schedules, values keep to their kinds, each value that a step
+/// evaluates lies in its range, no index is out of range, and no reference that is followed is null or leads out of its array: so no step meets one for
+/// which the source's definitions have a value only to be total.
 pub fn accepted_runs_are_safe()
     ensures runs { AcceptedRuns }
     ensures values { AcceptedValues }

@@ -12,7 +12,7 @@ use Rattle.ido_machine.specs.Machines.{RepresentsMachine, log_by, program_in}
 use Rattle.run_tracker.specs.declared.life.Life.TheInside.{Inside}
 use Rattle.run_tracker.specs.links.AccountRepresentation.{AccountInv, ends_then}
 use Rattle.run_tracker.specs.links.SectionRepresentation.{AreSections, section_at}
-use Rattle.run_tracker.specs.ObjectLives.{IsValidIn, world_of, steps_in, living, opening_of, ended_sections, ends_at_point}
+use Rattle.run_tracker.specs.ObjectLives.{IsValidIn, world_of, steps_in, living, opening_of, sections_since, ends_at_point}
 use Rattle.run_tracker.specs.links.LifeParts.{AreCounted, HaveCounted, HasCounts, IsAmong, is_start}
 use Rattle.run_tracker.specs.links.LifeRepresentation.{course_of, AreCounts, LifeInv}
 use Rattle.run_tracker.proofs.Events.{after_more, along_more, points_more, fences_more, sections_more, harts-after, weight-after, ordered-after}
@@ -31,7 +31,7 @@ pub record IsMade (life : Inside) (event : Event) (parts : Parts) : Type 0 where
   pub ends : parts.ends.items ≡ ends_then (is_start event) life.ends.items (length life.account.kept.items)
   pub counted : HaveCounted life.counts parts.counts (program_in life.machine) (world_of (course_of life)) event
   pub sectioned : AreSections parts.sections (length (program_in life.machine)) (after_event (program_in life.machine) (world_of (course_of life)) event)
-      (λ h. ended_sections (course_of life) h + cond (ends_at_point (program_in life.machine) (world_of (course_of life)) event h) 1 0)
+      (λ h. sections_since (course_of life) h + cond (ends_at_point (program_in life.machine) (world_of (course_of life)) event h) 1 0)
 
 module _ (life : Inside) (stands : LifeInv life) where
   few_counts : (counts : List ℕ) (done : ℕ → ℕ) → AreCounts counts (length (program_in life.machine)) done → ((h : ℕ) → done h ≤ length life.journal.events) →

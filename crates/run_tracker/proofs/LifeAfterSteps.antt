@@ -22,7 +22,7 @@ use Rattle.run_tracker.specs.declared.sections.Sections.{Sections}
 use Rattle.run_tracker.specs.links.AccountRepresentation.{AccountInv, ends_from}
 use Rattle.run_tracker.specs.links.SectionRepresentation.{AreSections}
 use Rattle.run_tracker.specs.links.LocalRepresentation.{marks_passed, with_more_begun}
-use Rattle.run_tracker.specs.ObjectLives.{ended_sections, living, opening_of, steps_in, world_of}
+use Rattle.run_tracker.specs.ObjectLives.{sections_since, living, opening_of, steps_in, world_of}
 use Rattle.run_tracker.specs.links.LifeRepresentation.{course_of, AreCounts, LifeInv}
 use Rattle.run_tracker.proofs.LifeChanges.{AreAt, Grows, Parts, course_with, hart_count, lasts, steps_count, with_parts}
 use Rattle.run_tracker.proofs.LocalRuns.{HasRunLocally, has_run_locally}
@@ -100,7 +100,7 @@ module _ (life : Inside) (stands : LifeInv life) (steps : LocalSteps life) (part
             (same_counts life.counts.fences.items (finished_fences living opening life.journal.events) (finished_fences living opening journal) stands.fences
             ahead.fences);
         sections = subst (λ (x : Sections). AreSections x harts (with_hart before steps.h (with_local_state steps.hart steps.last))
-            (ended_sections (course_with life (events_in steps)))) (sym adopted.sections)
+            (sections_since (course_with life (events_in steps)))) (sym adopted.sections)
             (record {
               size = stands.sections.size;
               position = stands.sections.position;

@@ -23,7 +23,7 @@ use Rattle.run_tracker.specs.links.LifeParts.{IsAmong}
 use Rattle.run_tracker.specs.links.AccountRepresentation.{AccountInv, AreOpen, AreOrdered, ends_from, weight}
 use Rattle.run_tracker.specs.links.SectionRepresentation.{AreSections}
 use Rattle.run_tracker.specs.links.SignTables.{AreTables}
-use Rattle.run_tracker.specs.ObjectLives.{Course, IsValidIn, world_of, steps_in, living, opening_of, ended_sections}
+use Rattle.run_tracker.specs.ObjectLives.{Course, IsValidIn, world_of, steps_in, living, opening_of, sections_since}
 use Rattle.run_tracker.specs.links.EarlierLives.{lives_in}
 use Rattle.run_tracker.specs.links.LifeRepresentation.{course_of, executable_by, kept_first, opening_by, AreCounts, LifeInv}
 
@@ -77,7 +77,7 @@ pub record AreAt (life : Inside) (more : List Event) (parts : Parts) (w : World)
       (point_stores living (opening_of (course_of life)) (course_with life more).journal)
   pub fences : AreCounts parts.counts.fences.items (length (program_in life.machine))
       (finished_fences living (opening_of (course_of life)) (course_with life more).journal)
-  pub sections : AreSections parts.sections (length (program_in life.machine)) w (ended_sections (course_with life more))
+  pub sections : AreSections parts.sections (length (program_in life.machine)) w (sections_since (course_with life more))
 
 -- an event that may be asked is one of the harts
 pub is_among : (log : Log) (harts : ℕ) (may : Bool) (event : Event) → IsValidNow harts (IsEviction log harts) may event → IsAmong log harts event
@@ -110,6 +110,7 @@ module _ (life : Inside) (stands : LifeInv life) where
         let at : List (List Slot) → Log → List Event → Course = λ p l j. record {
           runs = executable_by l p life;
           kept_before = lives_in life.earlier.items life.before.items;
+          ended_before = life.ended_before.items;
           opening = opening_by l p life.mutexes life.initial.items life.left;
           journal = j;
           cap = life.cap;
@@ -140,7 +141,8 @@ module _ (life : Inside) (stands : LifeInv life) where
           (omega (arith, at.light, stands.light, longer));
       points = moved (λ (x : Course). AreCounts parts.counts.points.items (length x.runs.program) (point_stores living (opening_of x) x.journal)) at.points;
       fences = moved (λ (x : Course). AreCounts parts.counts.fences.items (length x.runs.program) (finished_fences living (opening_of x) x.journal)) at.fences;
-      sections = moved (λ (x : Course). AreSections parts.sections (length x.runs.program) (world_of x) (ended_sections x)) at.sections;
+      sections = moved (λ (x : Course). AreSections parts.sections (length x.runs.program) (world_of x) (sections_since x)) at.sections;
+      few_ended = stands.few_ended;
       within = omega (arith, grown.room, longer);
       few = stands.few;
       bytes = stands.bytes;

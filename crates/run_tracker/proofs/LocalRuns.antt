@@ -20,7 +20,7 @@ use Rattle.ido_machine.specs.Harts.{local_state_of, with_local_state}
 use Rattle.run_tracker.specs.links.AccountRepresentation.{AreOpen}
 use Rattle.run_tracker.specs.links.LocalRepresentation.{marks_at, marks_passed, with_more_begun}
 use Rattle.run_tracker.specs.LocalRuns.{with_steps}
-use Rattle.run_tracker.specs.ObjectLives.{Course, LifeConfig, ended_sections, is_stopped, living, opening_of, steps_in, world_of}
+use Rattle.run_tracker.specs.ObjectLives.{Course, LifeConfig, sections_since, is_stopped, living, opening_of, steps_in, world_of}
 use Rattle.machine_model.specs.Machine.{has_stopped}
 use Rattle.run_tracker.proofs.DurablePoints.{none_at_point}
 use Rattle.run_tracker.proofs.Events.{after_more, along_more, begun_if, fences_more, played_is, points_more, sections_more}
@@ -67,7 +67,7 @@ pub record HasRunLocally (life : Course) (h : ℕ) (hart : Hart) (n : ℕ) (s : 
   pub count : length life.runs.program ≡ length (world_of (with_steps life h n)).harts
   pub points : (g : ℕ) → point_stores living (opening_of life) (with_steps life h n).journal g ≡ point_stores living (opening_of life) life.journal g
   pub fences : (g : ℕ) → finished_fences living (opening_of life) (with_steps life h n).journal g ≡ finished_fences living (opening_of life) life.journal g
-  pub sections : (g : ℕ) → ended_sections (with_steps life h n) g ≡ ended_sections life g
+  pub sections : (g : ℕ) → sections_since (with_steps life h n) g ≡ sections_since life g
 
 module _ (life : Course) (h : ℕ) (hart : Hart) (there : slice_get (world_of life).harts h ≡ Some hart)
     (is_open : AreOpen (world_of life).log (world_of life).words (steps_in life)) (sound : IsWellFormedWorld (world_of life))
@@ -88,7 +88,7 @@ module _ (life : Course) (h : ℕ) (hart : Hart) (there : slice_get (world_of li
         count = count ∙ ap (λ (w : World). length w.harts) (sym world_same);
         points = λ g. ap (λ (j : List Event). point_stores living (opening_of life) j g) none;
         fences = λ g. ap (λ (j : List Event). finished_fences living (opening_of life) j g) none;
-        sections = λ g. ap (λ (j : List Event). ended_sections (record life { journal = j }) g) none;
+        sections = λ g. ap (λ (j : List Event). sections_since (record life { journal = j }) g) none;
       }
 
   module _ (running : hart.phase ≡ Run) (n : ℕ) (s t : LocalState) (ahead : HasRunLocally life h hart n s)
@@ -164,11 +164,11 @@ module _ (life : Course) (h : ℕ) (hart : Hart) (there : slice_get (world_of li
               ∙ ap (λ (b : Bool). finished_fences living (opening_of life) journal g + cond b 1 0)
               (no_fence life.runs.program w h at t at_there running local g) ∙ none ∙ ahead.fences g;
           sections = λ g.
-              let none : ended_sections (record life { journal = journal }) g + 0 ≡ ended_sections (record life { journal = journal }) g = omega arith in
+              let none : sections_since (record life { journal = journal }) g + 0 ≡ sections_since (record life { journal = journal }) g = omega arith in
               let same = ap (λ (v : World). durable_point v.log v.words g) (world_is life.runs.program w h at t at_there running local) in
-              ap (λ (j : List Event). ended_sections (record life { journal = j }) g) more
+              ap (λ (j : List Event). sections_since (record life { journal = j }) g) more
               ∙ sections_more (opening_of life) journal (Step h) g
-              ∙ ap (λ (b : Bool). ended_sections (record life { journal = journal }) g + cond b 1 0)
+              ∙ ap (λ (b : Bool). sections_since (record life { journal = journal }) g + cond b 1 0)
               (none_at_point life.runs.program w (Step h) g same) ∙ none ∙ ahead.sections g;
         }
 

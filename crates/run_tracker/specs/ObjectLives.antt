@@ -1,5 +1,5 @@
 -- The life of a compiled object: what it represents, and how it behaves as a core.
-use Rattle.std.specs.Prelude.{ℕ, ◌*◌, ◌/◌, List, [], ◌∷◌, ◌++◌, length, map, take, drop, slice_get, Bool, false, not, ◌&&◌, ◌==◌, Some, None}
+use Rattle.std.specs.Prelude.{ℕ, ◌+◌, ◌*◌, ◌/◌, List, [], ◌∷◌, ◌++◌, length, map, take, drop, slice_get, slice_index_or, Bool, false, not, ◌&&◌, ◌==◌, Some, None}
 use Rattle.machine_events.specs.declared.event.Event.{Event}
 use Rattle.ido_base.specs.Words.{Word, durable_value}
 use Rattle.ido_base.specs.Layout.{variable_lines}
@@ -18,6 +18,8 @@ pub record Course : Type 0 where
   pub runs : Executable
   -- the schedules that were kept before the first event
   pub kept_before : LifeSchedules
+  -- how many sections of each thread have ended by these: 0 where none is told
+  pub ended_before : List ℕ
   -- the world before the first event
   pub opening : World
   -- the events so far
@@ -41,11 +43,12 @@ IsValidIn life event = IsValidNow (length life.runs.program) (IsEviction life.ru
 abbrev pub steps_in : Course → Steps
 steps_in life = steps_along life.runs.marks life.runs.program life.opening life.journal (first_steps (length life.runs.program) life.kept_before)
 
--- the life of an object before any event, which begins at this world with these schedules kept
-abbrev pub life_at : Object → Marks → World → (kept : LifeSchedules) → (cap : ℕ) → Course
-life_at object marks world kept cap = record {
+-- the life of an object before any event, which begins at this world with these schedules kept, by which so many sections of each thread have ended
+abbrev pub life_at : Object → Marks → World → (kept : LifeSchedules) → (ended : List ℕ) → (cap : ℕ) → Course
+life_at object marks world kept ended cap = record {
   runs = executable_of object marks;
   kept_before = kept;
+  ended_before = ended;
   opening = world;
   journal = [];
   cap = cap;
@@ -53,11 +56,11 @@ life_at object marks world kept cap = record {
 
 -- the life that begins at the object's start
 abbrev pub new_life : Object → Marks → (cap : ℕ) → Course
-new_life object marks cap = life_at object marks (machine_start object) (only_life []) cap
+new_life object marks cap = life_at object marks (machine_start object) (only_life []) [] cap
 
--- the life that begins as after a crash that left these words of its variables and logs, with these schedules kept
-abbrev pub life_from : Object → Marks → (words : List ℕ) → (kept : LifeSchedules) → (cap : ℕ) → Course
-life_from object marks words kept cap = life_at object marks (machine_from object words []) kept cap
+-- the life that begins as after a crash that left these words of its variables and logs, with these schedules kept and so many sections ended by them
+abbrev pub life_from : Object → Marks → (words : List ℕ) → (kept : LifeSchedules) → (ended : List ℕ) → (cap : ℕ) → Course
+life_from object marks words kept ended cap = life_at object marks (machine_from object words []) kept ended cap
 
 -- the life with an event more
 abbrev pub with_event : Course → Event → Course
@@ -69,10 +72,11 @@ left_words variable_words words = take variable_words (map durable_value words) 
 
 -- ---- A life as a core
 
--- what a machine runs with the world that it is at, and the schedules that were kept before, which no event changes
+-- what a machine runs with the world that it is at, and the schedules that were kept before and the sections ended by them, which no event changes
 pub record LifeConfig : Type 0 where
   pub runs : Executable
   pub kept_before : LifeSchedules
+  pub ended_before : List ℕ
   pub world : World
 
 -- the hart has ended, or its recovery is done
@@ -96,6 +100,7 @@ abbrev pub opening_of : Course → LifeConfig
 opening_of life = record {
   runs = life.runs;
   kept_before = life.kept_before;
+  ended_before = life.ended_before;
   world = life.opening;
 }
 
@@ -107,5 +112,9 @@ ends_at_point program w event h =
     not (durable_point w.log w.words h == 0) && (durable_point (after_event program w event).log (after_event program w event).words h == 0)
 
 -- how many sections of the hart's thread have ended, and are kept, since the life began: so often its durable point has become 0
+abbrev pub sections_since : Course → (h : ℕ) → ℕ
+sections_since life h = passed_count living (λ m event. ends_at_point m.runs.program m.world event h) (opening_of life) life.journal
+
+-- how many have ended and are kept, those that had ended before among them
 abbrev pub ended_sections : Course → (h : ℕ) → ℕ
-ended_sections life h = passed_count living (λ m event. ends_at_point m.runs.program m.world event h) (opening_of life) life.journal
+ended_sections life h = slice_index_or life.ended_before h 0 + sections_since life h

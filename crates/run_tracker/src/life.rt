@@ -57,6 +57,8 @@ pub struct Life {
     /// The schedules that were kept before the first event: of the lives that have ended, and of the one that goes on.
     earlier: Vec<Vec<u32>>,
     before: Vec<u32>,
+    /// How many sections of each thread have ended by those.
+    ended_before: Vec<u64>,
     tables: Vec<SignTable>,
     machine: Machine,
     account: Account,
@@ -134,6 +136,16 @@ fn steps_between(kept: &[u32], from: usize, to: usize) -> &[u32]
     ensures { result.now ≡ take (to - from) (drop from kept.now) }
 {
     &kept[from..to]
+}
+
+/// How many sections of a thread had ended before a life began.
+fn ended_at(ended: &[u64], thread: u32) -> u64
+    ensures { result ≡ slice_index_or ended.now thread 0 }
+{
+    match ended.get(thread as usize) {
+        Some(count) => *count,
+        None => 0,
+    }
 }
 
 /// The reply is one to an event by which more of memory may be durable: the write-back of a queued line, an eviction or a crash.
@@ -220,11 +232,12 @@ impl Life {
         ensures { IfOk result (λ life. life ≡ new_life object.now marks.now cap) }
     {
         let machine = Machine::start(alloc, object)?;
-        Life::begun(alloc, object, marks, machine, None, &[], &[], cap)
+        Life::begun(alloc, object, marks, machine, None, &[], &[], &[], cap)
     }
 
     /// The life of an object that begins as after a crash that left these words of its variables and, after them, of
-    /// its logs, with the schedules of earlier lives and this one of its own kept already, and room for so many events.
+    /// its logs, with the schedules of earlier lives and this one of its own kept already, by which so many sections of each thread have ended, and room for
+    /// so many events.
     pub fn of_words(
         alloc: Global,
         object: &Object,
@@ -232,17 +245,19 @@ impl Life {
         words: &[u64],
         earlier: &[Vec<u32>],
         schedule: &[u32],
+        ended: &[u64],
         cap: u64,
     ) -> Result<Life, OutOfMemory>
         requires limits { IsWithinLimits object.now }
         requires marks { length marks.now.threads.items ≡ length object.now.code.items }
         requires count { length words.now ≡ length object.now.initial.items / 8 + log_words object.now.log * length object.now.code.items }
+        requires ended { (h : ℕ) → slice_index_or ended.now h 0 < 2 ^ 63 }
         requires cap { kept_count earlier.now schedule.now + length earlier.now + cap < 2 ^ 63 }
-        ensures { IfOk result (λ life. life ≡ life_from object.now marks.now words.now (lives_in earlier.now schedule.now) cap) }
+        ensures { IfOk result (λ life. life ≡ life_from object.now marks.now words.now (lives_in earlier.now schedule.now) ended.now cap) }
     {
         let machine = Machine::of_words(alloc, object, words)?;
         let left = Some(words.to_vec(alloc)?);
-        Life::begun(alloc, object, marks, machine, left, earlier, schedule, cap)
+        Life::begun(alloc, object, marks, machine, left, earlier, schedule, ended, cap)
     }
 
     /// The life of an object whose machine has made no event yet.
@@ -254,6 +269,7 @@ impl Life {
         left: Option<Vec<u64>>,
         earlier: &[Vec<u32>],
         before: &[u32],
+        ended: &[u64],
         cap: u64,
     ) -> Result<Life, OutOfMemory>
         requires limits { IsWithinLimits object.now }
@@ -263,10 +279,11 @@ impl Life {
         requires events { events_of machine ≡ 0 }
         requires stands { RepresentsMachine machine (opening_by object.now.log (program_of object.now) object.now.mutexes object.now.initial.items left) }
         requires sound { IsWellFormedWorld (opening_by object.now.log (program_of object.now) object.now.mutexes object.now.initial.items left) }
+        requires ended { (h : ℕ) → slice_index_or ended.now h 0 < 2 ^ 63 }
         requires cap { kept_count earlier.now before.now + length earlier.now + cap < 2 ^ 63 }
         ensures { IfOk result (λ life. life ≡
             life_at object.now marks.now (opening_by object.now.log (program_of object.now) object.now.mutexes object.now.initial.items left)
-            (lives_in earlier.now before.now) cap) }
+            (lives_in earlier.now before.now) ended.now cap) }
     {
         let harts = machine.harts();
         let ends = ends_of(alloc, earlier, cap)?;
@@ -278,6 +295,7 @@ impl Life {
             left,
             earlier: copies_of(alloc, earlier)?,
             before: before.to_vec(alloc)?,
+            ended_before: ended.to_vec(alloc)?,
             tables: tables_of(alloc, object, machine.program(), marks)?,
             machine,
             account: account_after(alloc, harts, earlier, before, cap)?,
@@ -490,12 +508,13 @@ impl Life {
         self.counts.points[hart as usize]
     }
 
-    /// How many sections of the hart's thread have ended by steps that are kept, since the life began: so often its durable point has become 0.
+    /// How many sections of the hart's thread have ended by the kept schedules: those of which was told when the life began, and since then as often one as the
+    /// hart's durable point has become 0.
     pub fn ended(&self, hart: u32) -> u64
         requires { hart < length self.now.runs.program }
         ensures { result ≡ ended_sections self.now hart }
     {
-        self.sections.harts[hart as usize].ended
+        ended_at(&self.ended_before, hart) + self.sections.harts[hart as usize].ended
     }
 
     /// How many fences the hart has finished.

@@ -1,5 +1,5 @@
 -- What stands first in an image, and faults of what stands last.
-use Rattle.std.specs.Prelude.{◌≡◌, ◌≤◌, ℕ, List, length, Result, Ok, Err}
+use Rattle.std.specs.Prelude.{◌≡◌, ◌⊎◌, ◌≤◌, ℕ, List, length, Result, Ok, Err}
 use Rattle.ido_base.specs.declared.limits.TheConstants.{MOST_SOURCE_BYTES}
 use Rattle.file_fields.specs.declared.error.ReadError.{ReadError}
 use Rattle.file_fields.specs.declared.error.ReadError.TheVariants as read
@@ -8,6 +8,7 @@ use Rattle.image_checks.specs.declared.error.ImageError.TheVariants as e
 use Rattle.crash_images.specs.declared.version.ImageVersion.{ImageVersion}
 use Rattle.ido_cli.specs.declared.compiled_image.Begun.{Begun}
 use Rattle.log_schemes.specs.declared.log.Log.TheVariants.{V2}
+use Rattle.ido_compile.specs.declared.compiler.Compiled.{Compiled}
 use Rattle.ido_compile.specs.declared.error.CompileError.{CompileError}
 use Rattle.ido_compile.specs.CompileAnswers.{IsCompileAnswerAs}
 use Rattle.ido_cli.specs.CompiledImages.{BeginsCompiled, IsImageAnswer}
@@ -32,7 +33,11 @@ pub record HasBegun (newest : ImageVersion) (bytes : List ℕ) (b : Begun) : Typ
 abbrev pub IsAnewFault : (source : List ℕ) → ImageError → Type 0
 IsAnewFault source fault = (error : CompileError) × (fault ≡ image_fault error) × IsCompileAnswerAs V2 source (Err error)
 
--- a fault there is one of the image
+-- a fault of the image, whose bytes begin with no source that is compiled, unless memory was wanting
+pub record IsFirstFault (newest : ImageVersion) (bytes : List ℕ) (error : ImageError) : Type 0 where
+  pub answer : IsImageAnswer newest bytes (Err error)
+  pub none : (error ≡ e.Memory) ⊎ ((version : ImageVersion) (c : Compiled) → BeginsCompiled newest bytes version c → ⊥)
+
 abbrev pub IsBegun : ImageVersion → (bytes : List ℕ) → Result Begun ImageError → Type 0
 IsBegun newest bytes (Ok b) = HasBegun newest bytes b
-IsBegun newest bytes (Err error) = IsImageAnswer newest bytes (Err error)
+IsBegun newest bytes (Err error) = IsFirstFault newest bytes error

@@ -1,5 +1,5 @@
 -- What the fields of a life represent.
-use Rattle.std.specs.Prelude.{Vec, ◌≡◌, ℕ, ◌+◌, ◌/◌, ◌<◌, ◌≤◌, ◌^◌, List, length, slice_index, Option, Some, None}
+use Rattle.std.specs.Prelude.{Vec, ◌≡◌, ℕ, ◌+◌, ◌/◌, ◌<◌, ◌≤◌, ◌^◌, List, length, slice_index, slice_index_or, Option, Some, None}
 use Rattle.std.specs.Global.{Global}
 use Rattle.std.specs.Vec.{vec_capacity, vec_len}
 use Rattle.log_schemes.specs.declared.log.Log.{Log}
@@ -16,7 +16,7 @@ use Rattle.run_tracker.specs.links.AccountRepresentation.{AccountInv, AreOpen, A
 use Rattle.run_tracker.specs.links.EarlierLives.{kept_count, lives_in}
 use Rattle.run_tracker.specs.links.SectionRepresentation.{AreSections}
 use Rattle.run_tracker.specs.links.SignTables.{AreTables}
-use Rattle.run_tracker.specs.ObjectLives.{Course, world_of, steps_in, living, opening_of, ended_sections}
+use Rattle.run_tracker.specs.ObjectLives.{Course, world_of, steps_in, living, opening_of, sections_since}
 
 -- the world before the first event: that of the start, or that after a crash that left these words
 abbrev pub opening_by : Log → List (List Slot) → (locks : ℕ) → (initial : List ℕ) → Option (Vec ℕ Global) → World
@@ -38,6 +38,7 @@ abbrev pub course_of : Inside → Course
 course_of life = record {
   runs = executable_by (log_by life.machine) (program_in life.machine) life;
   kept_before = lives_in life.earlier.items life.before.items;
+  ended_before = life.ended_before.items;
   opening = opening_by (log_by life.machine) (program_in life.machine) life.mutexes life.initial.items life.left;
   journal = life.journal.events;
   cap = life.cap;
@@ -65,7 +66,8 @@ pub record LifeInv (life : Inside) : Type 0 where
   pub light : weight (steps_in (course_of life)) ≤ kept_first life + length life.journal.events
   pub points : AreCounts life.counts.points.items (length (program_in life.machine)) (point_stores living (opening_of (course_of life)) life.journal.events)
   pub fences : AreCounts life.counts.fences.items (length (program_in life.machine)) (finished_fences living (opening_of (course_of life)) life.journal.events)
-  pub sections : AreSections life.sections (length (program_in life.machine)) (world_of (course_of life)) (ended_sections (course_of life))
+  pub sections : AreSections life.sections (length (program_in life.machine)) (world_of (course_of life)) (sections_since (course_of life))
+  pub few_ended : (h : ℕ) → slice_index_or life.ended_before.items h 0 < 2 ^ 63
   pub within : length life.journal.events ≤ life.cap
   pub few : kept_first life + length life.earlier.items + life.cap < 2 ^ 63
   pub bytes : length life.initial.items ≤ MOST_VARIABLE_BYTES

@@ -24,8 +24,8 @@ returns-in_err-compiled c =
     let found = c.in_err-compiled.ensures in
     let source = c.in_ok-source.source.now in
     rw (p.1, p.2, found.1)
-    (compile_answer c.args.newest c.args.bytes.now c.in_ok-version.version c.in_ok-version.ensures.exact source c.in_ok-source.rest.now found.0
-    c.in_ok-source.ensures.exact (subst (λ (log : Log). IsCompileAnswerAs log source (Err found.0)) c.log.ensures found.2))
+    (compile_answer c.args.newest c.args.bytes.now c.in_ok-version.version c.in_ok-version.ensures.exact c.one_verdict.ensures.not_both source
+    c.in_ok-source.rest.now c.in_ok-source.ensures.exact found.0 (subst (λ (log : Log). IsCompileAnswerAs log source (Err found.0)) c.log.ensures found.2))
 
 pub returns : goal.returns
 returns c =

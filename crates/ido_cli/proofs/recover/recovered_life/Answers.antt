@@ -1,4 +1,4 @@
-use Rattle.std.proofs.Common.{◌≡◌, ◌+◌, ◌*◌, ◌-◌, ◌≤◌, min, ap, ap₂, ℕ, None, arith, length, ◌∙◌, subst}
+use Rattle.std.proofs.Common.{◌≡◌, ◌+◌, ◌*◌, ◌-◌, ◌≤◌, min, ap, ap₂, ℕ, [], None, arith, length, refl, ◌∙◌, subst}
 use Rattle.c_tree.specs.Flats.{flat_of}
 use Rattle.run_tracker.specs.links.EarlierLives.{kept_count}
 use Rattle.ido_cli.specs.Answers.{file_in}
@@ -29,7 +29,7 @@ drive-requires-clause-harts g c =
     let begun = begun_from y.object y.marks c.deref.result.now c.args.image.now.words.items c.deref-2.result.now lives.earlier.items c.deref-3.result.now
     lives.schedule.items c.leg_room-most.result c.in_ok-life.life c.in_ok-life.ensures c.deref.ensures.value c.deref-2.ensures.value
     c.deref-3.ensures.value in
-    let few = few_harts (flat_of x.flat) y.object y.marks y.cuts c.requires.translated (file_in c.args.image.now) c.leg_room-most.result
+    let few = few_harts (flat_of x.flat) y.object y.marks y.cuts c.requires.translated (file_in c.args.image.now) [] c.leg_room-most.result
     c.in_ok-life.life begun in
     omega (arith, few)
 
@@ -41,9 +41,9 @@ drive-requires-clause-moment g c κs within =
     let begun = begun_from y.object y.marks c.deref.result.now c.args.image.now.words.items c.deref-2.result.now lives.earlier.items c.deref-3.result.now
     lives.schedule.items c.leg_room-most.result c.in_ok-life.life c.in_ok-life.ensures c.deref.ensures.value c.deref-2.ensures.value
     c.deref-3.ensures.value in
-    let none = none_made (flat_of x.flat) y.object y.marks y.cuts c.requires.translated (file_in c.args.image.now) c.leg_room-most.result
+    let none = none_made (flat_of x.flat) y.object y.marks y.cuts c.requires.translated (file_in c.args.image.now) [] c.leg_room-most.result
     c.in_ok-life.life begun in
-    let room = room_left (flat_of x.flat) y.object y.marks y.cuts c.requires.translated (file_in c.args.image.now) c.leg_room-most.result
+    let room = room_left (flat_of x.flat) y.object y.marks y.cuts c.requires.translated (file_in c.args.image.now) [] c.leg_room-most.result
     c.in_ok-life.life begun in
     let life = c.in_ok-life.life in
     let most = c.leg_room-most.result in
@@ -64,5 +64,8 @@ returns g c =
     c.leg_room-most.ensures ∙ ap (λ (n : ℕ). min most_leg_events (n * c.args.turns + 1)) threads in
     let d = subst (λ (n : ℕ). IsLifeDriven c.in_ok-life.life n c.leg_room-most.result None left.core left.stops.items left.evict) c.from.ensures
     c.in_ok-driven.ensures in
-    has_recovered (flat_of x.flat) y.object y.marks y.cuts c.requires.translated (file_in c.args.image.now) c.leg_room-most.result c.in_ok-life.life begun
-    left.core d.plays.opens c.files_begin.ensures c.args.turns c.leg_room-most.result left.stops.items left.evict room d c.requires.words c.requires.steps
+    has_recovered (flat_of x.flat) y.object y.marks y.cuts c.requires.translated (file_in c.args.image.now) [] c.leg_room-most.result c.in_ok-life.life begun
+    left.core d.plays.opens c.files_begin.ensures refl c.args.turns c.leg_room-most.result left.stops.items left.evict room d c.requires.words c.requires.steps
+
+pub of_words-requires-clause-ended : goal.of_words-requires-clause-ended
+of_words-requires-clause-ended g c = λ h. omega arith

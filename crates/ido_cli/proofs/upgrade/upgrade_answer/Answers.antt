@@ -2,7 +2,7 @@ use Rattle.std.proofs.lemmas.Result.{IfOk-weaker}
 use Rattle.crash_images.specs.declared.version.ImageVersion.TheVariants.{Second}
 use Rattle.ido_cli.specs.Answers.{not_older, of_older}
 use Rattle.ido_cli.specs.CompiledImages.{whole}
-use Rattle.ido_cli.proofs.RecoveredRuns.{accepted_runs_on, few_steps_in, translated_in, words_in}
+use Rattle.ido_cli.proofs.RecoveredRuns.{accepted_runs_on, compiled_in, few_steps_in, translated_in, words_in}
 use Rattle.ido_cli.proofs.RefusedSchedules.{both_ok}
 use Rattle.ido_cli.proofs.UpgradedImages.{older_alone}
 use Rattle.ido_cli.proofs.upgrade.upgrade_answer.Goals as goal
@@ -16,6 +16,10 @@ upgraded-requires-clause-alone g c κs within = older_alone c.args.input.now c.i
 pub upgraded-requires-clause-translated : goal.upgraded-requires-clause-translated
 upgraded-requires-clause-translated g c κs within =
     translated_in Second c.args.input.now c.in-Ok.older.image (whole c.in-Ok.older.image c.in-Ok.ensures.0.is)
+
+pub upgraded-requires-clause-compilation : goal.upgraded-requires-clause-compilation
+upgraded-requires-clause-compilation g c κs within =
+    (compiled_in Second c.args.input.now c.in-Ok.older.image (whole c.in-Ok.older.image c.in-Ok.ensures.0.is)).2.compilation
 
 pub upgraded-requires-clause-steps : goal.upgraded-requires-clause-steps
 upgraded-requires-clause-steps g c κs within =

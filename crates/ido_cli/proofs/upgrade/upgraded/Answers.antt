@@ -22,6 +22,6 @@ returns g c =
     let image = c.args.older.now.image in
     IfOk-weaker c.life_said.result _ _
     (λ said told.
-    upgrade (translation_in image.compiled) (file_in image) c.args.turns c.in_ok-life.life c.in_ok-life.ensures c.args.older.now.source.now said.status
-    said.output.items told)
+    upgrade (translation_in image.compiled) (file_in image) c.args.turns c.in_ok-life.life c.in_ok-life.ensures c.images_are_crashes.ensures
+    c.requires.compilation c.args.older.now.source.now said.status said.output.items told)
     c.life_said.ensures

@@ -1,4 +1,4 @@
-use Rattle.std.proofs.Common.{◌≡◌, ℕ, zero, suc, ◌+◌, ◌<◌, ◌≤◌, List, length, replicate, get_or, map, ap, ap₂, sym, subst, ◌∙◌, refl, arith, rules}
+use Rattle.std.proofs.Common.{◌≡◌, ℕ, zero, suc, ◌+◌, ◌<◌, ◌≤◌, List, length, replicate, get_or, slice_index_or, ◌^◌, map, ap, ap₂, sym, subst, ◌∙◌, refl, arith, rules}
 use Rattle.std.proofs.Common.{length-append}
 use Rattle.std.proofs.lemmas.List.{length-map, length-replicate}
 use Rattle.rv64_isa.specs.declared.object.Slot.{Slot}
@@ -18,7 +18,7 @@ use Rattle.run_tracker.specs.links.EarlierLives.{lives_in, schedule_in, steps_to
 use Rattle.run_tracker.specs.declared.sections.HartSections.{HartSections}
 use Rattle.run_tracker.specs.links.SectionRepresentation.{AreSections}
 use Rattle.run_tracker.specs.links.SignTables.{AreTables}
-use Rattle.run_tracker.specs.ObjectLives.{Course, ended_sections, life_at, world_of, steps_in, living, opening_of}
+use Rattle.run_tracker.specs.ObjectLives.{Course, sections_since, life_at, world_of, steps_in, living, opening_of}
 use Rattle.run_tracker.specs.links.LifeRepresentation.{course_of, kept_first, opening_by, AreCounts}
 use Rattle.run_tracker.proofs.Events.{weightless}
 use Rattle.run_tracker.proofs.StepsStayOpen.{open-none}
@@ -47,7 +47,10 @@ invariant_of-result c =
     let kept_is : kept ≡ lives_in copies.items copy.items =
     ap₂ (λ (ls : List (List ℕ)) (steps : List ℕ). let x : LifeSchedules = record { earlier = ls; schedule = steps } in x) (sym c.in_ok-copies_of.ensures)
     (sym same_steps) in
-    let start : Course = life_at object marks (opening (program_of object)) kept c.args.cap in
+    let ended = c.args.ended.now in
+    let counted = c.in_ok-to_vec-3.field-0 in
+    let same_ended : counted.items ≡ ended = search rules in
+    let start : Course = life_at object marks (opening (program_of object)) kept ended c.args.cap in
     let life : Inside = record {
       initial = c.in_ok-to_vec.field-0;
       mutexes = object.mutexes;
@@ -55,6 +58,7 @@ invariant_of-result c =
       left = c.args.left;
       earlier = copies;
       before = copy;
+      ended_before = counted;
       tables = c.in_ok-tables_of.field-0;
       machine = machine;
       account = account;
@@ -64,9 +68,10 @@ invariant_of-result c =
       sections = c.in_ok-sections.sections;
       cap = c.args.cap;
     } in
-    let copied_is : life_at object marks (opening (program_of object)) (lives_in copies.items copy.items) c.args.cap ≡ course_of life = search rules in
+    let copied_is : life_at object marks (opening (program_of object)) (lives_in copies.items copy.items) counted.items c.args.cap ≡ course_of life =
+    search rules in
     let is : start ≡ course_of life =
-    ap (λ (k : LifeSchedules). life_at object marks (opening (program_of object)) k c.args.cap) kept_is ∙ copied_is in
+    ap₂ (λ (k : LifeSchedules) (ns : List ℕ). life_at object marks (opening (program_of object)) k ns c.args.cap) kept_is (sym same_ended) ∙ copied_is in
     let program_is : program_in machine ≡ program_of object = c.requires.program in
     let count : c.harts-harts.result ≡ length (program_of object) = c.harts-harts.ensures ∙ ap length program_is in
     let none_yet : length journal.events ≡ 0 = ap (λ (j : Recorded). length j.events) c.in_ok-new.ensures in
@@ -123,12 +128,13 @@ invariant_of-result c =
         ap length fences ∙ length-replicate c.harts-harts.result 0 ∙ count,
         λ h below. ap (λ (xs : List ℕ). get_or xs h 0) fences ∙ each_is c.harts-harts.result h 0,
       );
-      sections = subst (λ (x : Course). AreSections c.in_ok-sections.sections (length x.runs.program) (world_of x) (ended_sections x)) is (record {
+      sections = subst (λ (x : Course). AreSections c.in_ok-sections.sections (length x.runs.program) (world_of x) (sections_since x)) is (record {
         size = c.in_ok-sections.ensures.size ∙ ap length program_is;
         position = λ h below. ap (λ (s : HartSections). s.position) (seen h below);
         point = λ h below. ap (λ (s : HartSections). s.point) (seen h below);
         counted = λ h below. ap (λ (s : HartSections). s.ended) (seen h below);
       });
+      few_ended = λ h. subst (λ (ns : List ℕ). slice_index_or ns h 0 < 2 ^ 63) (sym same_ended) (c.requires.ended h);
       within = omega (arith, none_yet);
       few = omega (arith, c.requires.cap, same_before, same_together, same_lives);
       bytes = omega (arith, c.requires.limits.bytes, ap length same_bytes);

@@ -4,7 +4,7 @@ use Rattle.machine_model.specs.Machine.{IsValidAt, can_start}
 use Rattle.ido_machine.specs.Machines.{program_in}
 use Rattle.run_tracker.specs.declared.signs.SignTable.{SignTable}
 use Rattle.run_tracker.specs.links.SignTables.{AreTables}
-use Rattle.run_tracker.specs.ObjectLives.{Course, IsValidIn, ended_sections, steps_in, world_of}
+use Rattle.run_tracker.specs.ObjectLives.{Course, IsValidIn, sections_since, steps_in, world_of}
 use Rattle.run_tracker.specs.links.AccountRepresentation.{ends_then}
 use Rattle.run_tracker.specs.links.LifeParts.{is_start, may_persist}
 use Rattle.run_tracker.proofs.LifeChanges.{is_among, valid_at}
@@ -79,7 +79,7 @@ invariant_of-self c =
       ends = c.end_if.ensures.items ∙ (ap (λ (b : Bool). ends_then b life.ends.items c.len.result) c.is_start.ensures
           ∙ ap (ends_then (is_start event) life.ends.items) size);
       counted = made.ensures.counts world stands.machine;
-      sectioned = sections_after program world event (length program) life.sections (ended_sections (course_of life)) stands.sections life.machine
+      sectioned = sections_after program world event (length program) life.sections (sections_since (course_of life)) stands.sections life.machine
           stands.machine refl stands.sound c.look_if.new.self c.may_persist.result
           (c.may_persist.ensures ∙ ap may_persist (made.ensures.world world stands.machine valid).replied) c.look_if.ensures.size
           (λ looks h below. c.look_if.ensures.seen looks _ (made.ensures.world world stands.machine valid).stands h below) c.look_if.ensures.unseen;

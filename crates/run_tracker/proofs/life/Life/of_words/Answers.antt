@@ -20,6 +20,6 @@ pub returns : goal.returns
 returns c =
     let object = c.args.object.now in
     IfOk-weaker c.begun.result _ _
-    (λ life is. is ∙ ap (λ (w : World). life_at object c.args.marks.now w (lives_in c.args.earlier.now c.args.schedule.now) c.args.cap)
+    (λ life is. is ∙ ap (λ (w : World). life_at object c.args.marks.now w (lives_in c.args.earlier.now c.args.schedule.now) c.args.ended.now c.args.cap)
     (opening_is c.in_ok-machine.machine object c.args.words.now c.in_ok-to_vec.field-0 (search rules) c.in_ok-machine.ensures.program
     c.in_ok-machine.ensures.stands)) c.begun.ensures
