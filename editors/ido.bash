@@ -9,6 +9,8 @@ _ido() {
         ((at == 1)) && words+=' --explain --help --version'
     elif [[ ${COMP_WORDS[at]} == regions ]]; then
         words='--least'
+    elif [[ ${COMP_WORDS[at]} == play ]]; then
+        words='--fences'
     elif [[ ${COMP_WORDS[at]} == live ]]; then
         words='--evict --journal'
     fi

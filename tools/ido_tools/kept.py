@@ -3,7 +3,6 @@
 import contextlib
 import fcntl
 import os
-import signal
 import sys
 import threading
 import time
@@ -82,8 +81,6 @@ def keep(path):
 
 
 def main():
-    for it in (signal.SIGTERM, signal.SIGHUP):
-        signal.signal(it, lambda *_: sys.exit(NOT_STARTED))
     try:
         keep(sys.argv[1])
     except (BadInput, OSError) as error:

@@ -39,7 +39,7 @@ COMMANDS = (
     ("list", "", "an object file", "the listing of its code"),
     ("regions", "[--least]", "a source", "its nodes, and the boundaries chosen among them; with `--least` how few there are in straight code too"),
     ("order", "", "a source", "`ordered`, or the first lock that is taken out of order"),
-    ("play", "", WITH_SCRIPT, "the report of a run of the compiled source"),
+    ("play", "[--fences]", WITH_SCRIPT, "the report of a run of the compiled source; with `--fences` how many fences each hart has finished too"),
     ("image", "", WITH_SCRIPT, "the image file that a crash after that run would leave"),
     ("recover", "TURNS", "an image file", "the report of the run that goes on from it, on threads"),
     ("upgrade", "TURNS", "an image file of an older version", "the image file of the newest that is left of that run, where it is settled"),
