@@ -34,11 +34,11 @@ made (products.Regions least) input (Ok said) short answer = within_limits (λ l
 made products.Order input (Ok said) short answer = within_limits (λ long. omega (arith, short, long)) answer
 made product input (Err e) short answer = tt
 
-pub draws : {E : Type 0} (seed turns : ℕ) (crashes input : List ℕ) (r : Result Said E) → length input ≤ MOST_SOURCE_BYTES
-    → IfOk r (λ said. SeededAnswer seed turns crashes input said.status said.output.items) →
-    IfOk r (λ said. AnswerToInput (command.Seeded seed turns crashes) input said.status said.output.items)
-draws seed turns crashes input (Ok said) short answer = within_limits (λ long. omega (arith, short, long)) answer
-draws seed turns crashes input (Err e) short answer = tt
+pub draws : {E : Type 0} (seed turns : ℕ) (crashes : List ℕ) (journal : Bool) (input : List ℕ) (r : Result Said E) → length input ≤ MOST_SOURCE_BYTES
+    → IfOk r (λ said. SeededAnswer seed turns crashes journal input said.status said.output.items) →
+    IfOk r (λ said. AnswerToInput (command.Seeded seed turns crashes journal) input said.status said.output.items)
+draws seed turns crashes journal input (Ok said) short answer = within_limits (λ long. omega (arith, short, long)) answer
+draws seed turns crashes journal input (Err e) short answer = tt
 
 pub lives : {E : Type 0} (turns : ℕ) (crashes : List ℕ) (evict : Option ℕ) (journal : Bool) (input : List ℕ) (r : Result Said E) →
     length input ≤ MOST_SOURCE_BYTES → IfOk r (λ said. LiveAnswer turns crashes evict journal input said.status said.output.items) →

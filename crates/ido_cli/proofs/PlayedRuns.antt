@@ -1,6 +1,6 @@
 -- What is played of a compiled source: the machine and the kept steps of its translation, which are those of the source.
 use Rattle.std.proofs.Common.{◌≡◌, refl, ℕ, suc, ◌+◌, ◌<◌, ◌≤◌, List, [], ◌∷◌, ◌++◌, length, map, take}
-use Rattle.std.proofs.Common.{sym, ◌∙◌, ap, ap₂, subst, Option, Some, None, min, slice_index_or, zero-add}
+use Rattle.std.proofs.Common.{sym, ◌∙◌, ap, ap₂, subst, Option, Some, None, min, slice_index_or, zero-add, Bool, true, false}
 use Rattle.std.proofs.lemmas.List.{length-map, take_all}
 use Rattle.log_schemes.specs.declared.log.Log.{Log}
 use Rattle.machine_events.specs.declared.event.Event.{Event}
@@ -35,6 +35,9 @@ use Rattle.run_scripts.specs.Reports as r
 use Rattle.run_scripts.specs.Plays.{PlayFault, play_fault, script_events}
 use Rattle.run_scripts.specs.Scripts.{Line}
 use Rattle.run_tracker.specs.ObjectLives.{Course, LifeConfig, ends_at_point, living, new_life, opening_of, steps_in, world_of}
+use Rattle.ido_cli.specs.Answers.{IsTold}
+use Rattle.ido_cli.specs.links.LegRuns.{IsSaidOf}
+use Rattle.run_scripts.specs.Journals.{journal_text}
 use Rattle.ido_cli.specs.Plays.{IsRunBy, ScriptAnswer, beginning, events_by, faulty}
 use Rattle.ido_cli.specs.Refusals.{IsRefusedAt, play_fault_code, play_fault_place}
 use Rattle.ido_cli.specs.Reports.{machine_state, unsettled_harts}
@@ -112,6 +115,12 @@ module _ (flat : f.Flat) (object : Object) (marks : Marks) (cuts : Cuts) (life :
         run_of c compilation events status output
         (subst (λ (s : Steps). IsReport (machine_state flat (world c events) (schedules s)) status output) same_steps
         (subst (λ (w : World). IsReport (machine_state flat w (schedules (steps_in life))) status output) same_world told))
+
+    -- what is said of the life is told of its events
+    pub told_by : (journal : Bool) (source : List ℕ) (status : ℕ) (output : List ℕ) → IsSaidOf journal source flat life status output →
+        IsTold journal source (translation_to flat object marks cuts) events status output
+    told_by false source status output told = run_by status output told
+    told_by true source status output told = (told.0, told.1 ∙ ap (journal_text source) p.journal)
 
     -- it has counted the sections that the source ends
     pub counts_sections : length object.code.items ≡ length flat.threads → CountsSections flat life

@@ -30,10 +30,11 @@ pub order_refused : (source : List ℕ) (found : CompileError) → IsFrontAnswer
 order_refused source (error.Refused x) refused status output told = unlocked x.rule x.place refused told
 order_refused source error.Memory refused status output none = absurd none
 
-pub draw_refused : (seed turns : ℕ) (crashes source : List ℕ) (found : CompileError) → IsCompileAnswer source (Err found) → (status : ℕ) (output : List ℕ) →
-    TellsRefusal found source status output → SeededAnswer seed turns crashes source status output
-draw_refused seed turns crashes source (error.Refused x) refused status output told = undrawn x.rule x.place refused told
-draw_refused seed turns crashes source error.Memory refused status output none = absurd none
+pub draw_refused : (seed turns : ℕ) (crashes : List ℕ) (journal : Bool) (source : List ℕ) (found : CompileError) → IsCompileAnswer source (Err found) →
+    (status : ℕ) (output : List ℕ) →
+    TellsRefusal found source status output → SeededAnswer seed turns crashes journal source status output
+draw_refused seed turns crashes journal source (error.Refused x) refused status output told = undrawn x.rule x.place refused told
+draw_refused seed turns crashes journal source error.Memory refused status output none = absurd none
 
 -- the source of an input
 module _ (source input : List ℕ) (is : source ≡ source_of input) where

@@ -28,7 +28,7 @@ use Rattle.run_scripts.specs.Reports.{line}
 use Rattle.run_scripts.specs.links.Evictors.{evictions_of}
 use Rattle.run_tracker.specs.ObjectLives.{Course, LifeConfig, new_life, opening_of, steps_in, world_of}
 use Rattle.ido_cli.specs.declared.live.Run.{Run}
-use Rattle.ido_cli.specs.Answers.{IsTold, LiveAnswer, LoadAnswer, unloaded, unrun}
+use Rattle.ido_cli.specs.Answers.{LiveAnswer, LoadAnswer, unloaded, unrun}
 use Rattle.ido_cli.specs.Loads.{IsSummary}
 use Rattle.ido_cli.specs.Plays.{beginning}
 use Rattle.ido_cli.specs.Reports.{machine_state}
@@ -38,7 +38,7 @@ use Rattle.ido_cli.specs.links.LegRuns.{CanRun, HasRounds, HasRunLegs, IsLiveRun
 use Rattle.ido_cli.proofs.DrawnLives.{many_harts}
 use Rattle.ido_cli.proofs.LegRuns.{IsLifeDriven, is_leg_after}
 use Rattle.ido_cli.specs.links.PlayedLives.{HasPlayed}
-use Rattle.ido_cli.proofs.PlayedRuns.{run_by, same_steps, same_world}
+use Rattle.ido_cli.proofs.PlayedRuns.{same_steps, same_world, told_by}
 use Rattle.ido_cli.proofs.Summaries.{summary_of}
 
 -- ---- A life that begins
@@ -90,12 +90,8 @@ module _ (flat : f.Flat) (object : Object) (marks : Marks) (cuts : Cuts) (cap : 
       legs =
           subst (λ (s : Option (ℕ → ℕ × ℕ)). AreLegs (beginning made) turns s crashes [] life.journal) drawn
           (subst (λ (m : LifeConfig). AreLegs m turns (coming_of evictions_of begun.evict) crashes [] life.journal) begins h.legs);
-      told = by journal said;
+      told = told_by flat object marks cuts life life.journal live_played compilation journal source status output said;
     }
-      where
-        by : (journal : Bool) → IsSaidOf journal source flat life status output → IsTold journal source made life.journal status output
-        by false told = run_by flat object marks cuts life life.journal live_played compilation status output told
-        by true told = told
 
 pub live_refused : (turns : ℕ) (crashes : List ℕ) (evict : Option ℕ) (journal : Bool) (source : List ℕ) (found : CompileError) →
     IsCompileAnswer source (Err found) → (status : ℕ) (output : List ℕ) → TellsRefusal found source status output →

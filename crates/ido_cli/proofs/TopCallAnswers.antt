@@ -51,7 +51,7 @@ long_is_past command.Order input reads long = omega (arith, long)
 long_is_past (command.Recover turns) input reads long = long
 long_is_past (command.Upgrade turns) input reads long = long
 long_is_past (command.Make rounds seed) input reads long = cc reads
-long_is_past (command.Seeded seed turns crashes) input reads long = omega (arith, long)
+long_is_past (command.Seeded seed turns crashes journal) input reads long = omega (arith, long)
 long_is_past (command.Live turns crashes evict journal) input reads long = omega (arith, long)
 long_is_past (command.Load rounds seed) input reads long = cc reads
 long_is_past command.Sweep input reads long = inl long
@@ -83,7 +83,7 @@ any_input (command.Recover turns) input other status output unread answer = cc u
 any_input (command.Upgrade turns) input other status output unread answer = cc unread
 any_input (command.Make rounds seed) input other status output unread (past_limits past refused) = absurd past
 any_input (command.Make rounds seed) input other status output unread (within_limits within answer) = within_limits (λ past. past) answer
-any_input (command.Seeded seed turns crashes) input other status output unread answer = cc unread
+any_input (command.Seeded seed turns crashes journal) input other status output unread answer = cc unread
 any_input (command.Live turns crashes evict journal) input other status output unread answer = cc unread
 any_input command.Sweep input other status output unread answer = cc unread
 any_input (command.Load rounds seed) input other status output unread (past_limits past refused) = absurd past
@@ -191,10 +191,11 @@ of_upgrade turns input status output (not_older error is e told) h = not_four_or
 of_upgrade turns input status output (of_older image source is on upgrade) h =
     of_upgraded source (translation_in image.compiled) _ _ status output upgrade.said h
 
-of_seeded : (seed turns : ℕ) (crashes source : List ℕ) (status : ℕ) (output : List ℕ) → SeededAnswer seed turns crashes source status output →
-    (status ≡ 4) ⊎ (status ≡ 7) → ⊥
-of_seeded seed turns crashes source status output (undrawn found place is refused) h = not_four_or_seven status 1 refused.0 (inl (omega arith)) h
-of_seeded seed turns crashes source status output (drawn flat is c made run) h = by_unsettled _ status run.reported.status_is h
+of_seeded : (seed turns : ℕ) (crashes : List ℕ) (journal : Bool) (source : List ℕ) (status : ℕ) (output : List ℕ) →
+    SeededAnswer seed turns crashes journal source status output → (status ≡ 4) ⊎ (status ≡ 7) → ⊥
+of_seeded seed turns crashes journal source status output (undrawn found place is refused) h = not_four_or_seven status 1 refused.0 (inl (omega arith)) h
+of_seeded seed turns crashes false source status output (drawn flat is c made run) h = by_unsettled _ status run.reported.status_is h
+of_seeded seed turns crashes true source status output (drawn flat is c made told) h = not_four_or_seven status 0 told.0 (inl (omega arith)) h
 
 of_live : (turns : ℕ) (crashes : List ℕ) (evict : Option ℕ) (journal : Bool) (source : List ℕ) (status : ℕ) (output : List ℕ) →
     LiveAnswer turns crashes evict journal source status output → (status ≡ 4) ⊎ (status ≡ 7) → ⊥
@@ -225,7 +226,7 @@ of_command command.Order input status output answer h = of_order input status ou
 of_command (command.Recover turns) input status output answer h = of_recover turns input status output answer h
 of_command (command.Upgrade turns) input status output answer h = of_upgrade turns input status output answer h
 of_command (command.Make rounds seed) input status output answer h = not_four_or_seven status 0 answer.status_is (inl (omega arith)) h
-of_command (command.Seeded seed turns crashes) input status output answer h = of_seeded seed turns crashes input status output answer h
+of_command (command.Seeded seed turns crashes journal) input status output answer h = of_seeded seed turns crashes journal input status output answer h
 of_command (command.Live turns crashes evict journal) input status output answer h = of_live turns crashes evict journal input status output answer h
 of_command (command.Load rounds seed) input status output answer h = of_load rounds seed status output answer h
 of_command command.Sweep input status output answer h = of_sweep input status output answer h

@@ -172,10 +172,11 @@ module _ (one_flat : OneFlat) (one_fault : OneFault) (not_both : NotBoth) (one_s
   of_regions least text status output (uncut found place is told) = breaks found place is told
   of_regions least text status output (cut flat is x made e told) = keeps flat is (λ one. omega (arith, e, one))
 
-  of_seeded : (seed turns : ℕ) (crashes text : List ℕ) (status : ℕ) (output : List ℕ) → SeededAnswer seed turns crashes text status output →
-      Verdict text status output
-  of_seeded seed turns crashes text status output (undrawn found place is told) = breaks found place is told
-  of_seeded seed turns crashes text status output (drawn flat is c made run) = keeps flat is (not_by_unsettled _ status run.reported.status_is)
+  of_seeded : (seed turns : ℕ) (crashes : List ℕ) (journal : Bool) (text : List ℕ) (status : ℕ) (output : List ℕ) →
+      SeededAnswer seed turns crashes journal text status output → Verdict text status output
+  of_seeded seed turns crashes journal text status output (undrawn found place is told) = breaks found place is told
+  of_seeded seed turns crashes false text status output (drawn flat is c made run) = keeps flat is (not_by_unsettled _ status run.reported.status_is)
+  of_seeded seed turns crashes true text status output (drawn flat is c made told) = let zero = told.0 in keeps flat is (λ one. omega (arith, zero, one))
 
   of_live : (turns : ℕ) (crashes : List ℕ) (evict : Option ℕ) (journal : Bool) (text : List ℕ) (status : ℕ) (output : List ℕ) →
       LiveAnswer turns crashes evict journal text status output → Verdict text status output
@@ -334,11 +335,11 @@ module _ (one_flat : OneFlat) (one_fault : OneFault) (not_both : NotBoth) (one_s
   one_within (command.Make rounds seed) input status other output written within (breaks_rule one) told more =
       one_generated rounds seed status other output written told more
   one_within (command.Make rounds seed) input status other output written within (misspelled takes flat is x bad) told more = absurd takes
-  one_within (command.Seeded seed turns crashes) input status other output written within (plain n) told more = absurd n
-  one_within (command.Seeded seed turns crashes) input status other output written within (breaks_rule one) told more =
-      one_refusal input status other output written one (of_seeded seed turns crashes input status output told)
-      (of_seeded seed turns crashes input other written more)
-  one_within (command.Seeded seed turns crashes) input status other output written within (misspelled takes flat is x bad) told more = absurd takes
+  one_within (command.Seeded seed turns crashes journal) input status other output written within (plain n) told more = absurd n
+  one_within (command.Seeded seed turns crashes journal) input status other output written within (breaks_rule one) told more =
+      one_refusal input status other output written one (of_seeded seed turns crashes journal input status output told)
+      (of_seeded seed turns crashes journal input other written more)
+  one_within (command.Seeded seed turns crashes journal) input status other output written within (misspelled takes flat is x bad) told more = absurd takes
   one_within (command.Live turns crashes evict journal) input status other output written within (plain n) told more = absurd n
   one_within (command.Live turns crashes evict journal) input status other output written within (breaks_rule one) told more =
       one_refusal input status other output written one (of_live turns crashes evict journal input status output told)

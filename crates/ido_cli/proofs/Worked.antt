@@ -138,14 +138,19 @@ unfolding command_of clap_on_literals
 seed_is_wanted = refl
 
 seeded_is_taken : command_of (codes "ido" ∷ codes "seeded" ∷ codes "18446744073709551615" ∷ codes "1000000" ∷ []) ≡
-    Some (command.Seeded 18446744073709551615 1000000 [])
+    Some (command.Seeded 18446744073709551615 1000000 [] false)
 unfolding command_of clap_on_literals
 seeded_is_taken = refl
 
 crashes_are_taken : command_of (codes "ido" ∷ codes "seeded" ∷ codes "7" ∷ codes "0" ∷ codes "4000000" ∷ codes "0" ∷ codes "0" ∷ []) ≡
-    Some (command.Seeded 7 0 (4000000 ∷ 0 ∷ 0 ∷ []))
+    Some (command.Seeded 7 0 (4000000 ∷ 0 ∷ 0 ∷ []) false)
 unfolding command_of clap_on_literals
 crashes_are_taken = refl
+
+draws_journal_is_taken : command_of (codes "ido" ∷ codes "seeded" ∷ codes "7" ∷ codes "--journal" ∷ codes "10" ∷ codes "3" ∷ []) ≡
+    Some (command.Seeded 7 10 (3 ∷ []) true)
+unfolding command_of clap_on_literals
+draws_journal_is_taken = refl
 
 no_greater_seed_of_a_run : command_of (codes "ido" ∷ codes "seeded" ∷ codes "18446744073709551616" ∷ codes "1" ∷ []) ≡ None
 unfolding command_of clap_on_literals

@@ -61,7 +61,7 @@ IsPastLimits command.Order input = MOST_SOURCE_BYTES < length input
 IsPastLimits (command.Recover turns) input = MOST_INPUT_BYTES < length input
 IsPastLimits (command.Upgrade turns) input = MOST_INPUT_BYTES < length input
 IsPastLimits (command.Make rounds seed) input = ⊥
-IsPastLimits (command.Seeded seed turns crashes) input = MOST_SOURCE_BYTES < length input
+IsPastLimits (command.Seeded seed turns crashes journal) input = MOST_SOURCE_BYTES < length input
 IsPastLimits (command.Live turns crashes evict journal) input = MOST_SOURCE_BYTES < length input
 IsPastLimits (command.Load rounds seed) input = ⊥
 IsPastLimits command.Sweep input = IsSourcePastLimits input
@@ -152,22 +152,24 @@ pub data SweepAnswer (input : List ℕ) (status : ℕ) (output : List ℕ) : Typ
       (c : Translation) → IsTranslationOf flat c → SweptScript c (record { lines = lines; input = input; begins = rest_begins input }) status output →
       SweepAnswer input status output
 
--- ---- `seeded`
+-- ---- What is told of a run
 
--- what a source is answered: the report of a drawn run of it
-pub data SeededAnswer (seed turns : ℕ) (crashes : List ℕ) (source : List ℕ) (status : ℕ) (output : List ℕ) : Type 0 where
-  undrawn : (found : r.Rule) (place : Place) → IsRefusedAs command_log source found place → IsRefusedAt 1 (code_of found) source place.0 status output →
-      SeededAnswer seed turns crashes source status output
-  drawn : (flat : f.Flat) → IsAcceptedAs command_log source flat → (c : Translation) → IsTranslationOf flat c →
-      IsRunBy c (drawn_by c seed turns crashes) status output →
-      SeededAnswer seed turns crashes source status output
-
--- ---- `live` and `load`
-
--- what is to be said of the events of such a run: its report; or an input of `play` that makes them again
+-- what is to be said of the events of a run: its report; or an input of `play` that makes them again
 abbrev pub IsTold : (journal : Bool) → (source : List ℕ) → Translation → List Event → (status : ℕ) → (output : List ℕ) → Type 0
 IsTold false source c events status output = IsRunBy c events status output
 IsTold true source c events status output = (status ≡ 0) × (output ≡ journal_text source events)
+
+-- ---- `seeded`
+
+-- what a source is answered, of a drawn run of it
+pub data SeededAnswer (seed turns : ℕ) (crashes : List ℕ) (journal : Bool) (source : List ℕ) (status : ℕ) (output : List ℕ) : Type 0 where
+  undrawn : (found : r.Rule) (place : Place) → IsRefusedAs command_log source found place → IsRefusedAt 1 (code_of found) source place.0 status output →
+      SeededAnswer seed turns crashes journal source status output
+  drawn : (flat : f.Flat) → IsAcceptedAs command_log source flat → (c : Translation) → IsTranslationOf flat c →
+      IsTold journal source c (drawn_by c seed turns crashes) status output →
+      SeededAnswer seed turns crashes journal source status output
+
+-- ---- `live` and `load`
 
 -- what a source is answered, of a run of it on threads: for each crash word a leg and a crash, and a leg after them. The seed, where there is one, draws
 -- the evictions of all legs.
@@ -232,7 +234,7 @@ CommandAnswer command.Order input status output = OrderAnswer input status outpu
 CommandAnswer (command.Recover turns) input status output = RecoverAnswer turns input status output
 CommandAnswer (command.Upgrade turns) input status output = UpgradeAnswer turns input status output
 CommandAnswer (command.Make rounds seed) input status output = IsGenerated rounds seed status output
-CommandAnswer (command.Seeded seed turns crashes) input status output = SeededAnswer seed turns crashes input status output
+CommandAnswer (command.Seeded seed turns crashes journal) input status output = SeededAnswer seed turns crashes journal input status output
 CommandAnswer (command.Live turns crashes evict journal) input status output = LiveAnswer turns crashes evict journal input status output
 CommandAnswer (command.Load rounds seed) input status output = LoadAnswer rounds seed status output
 CommandAnswer command.Sweep input status output = SweepAnswer input status output

@@ -74,7 +74,7 @@ make_shape = record (new_shape (codes "make")) {
 
 abbrev pub seeded_shape : Shape
 seeded_shape = record (new_shape (codes "seeded")) {
-  rules = number_rule (codes "SEED") (parser.Unsigned 0 (2 ^ 64 - 1)) ∷ turns_rule ∷ crash_rule ∷ [];
+  rules = number_rule (codes "SEED") (parser.Unsigned 0 (2 ^ 64 - 1)) ∷ turns_rule ∷ crash_rule ∷ flag_rule (codes "journal") ∷ [];
 }
 
 abbrev pub live_shape : Shape
@@ -148,7 +148,8 @@ make_in rows =
 
 abbrev pub seeded_in : List Row → Option c.Command
 seeded_in rows =
-    option_and_then (λ seed. option_and_then (λ turns. option_map (λ crashes. command.Seeded seed turns crashes) (crashes_in rows))
+    option_and_then (λ seed. option_and_then (λ turns. option_map (λ crashes.
+    command.Seeded seed turns crashes (is_set (codes "journal") rows)) (crashes_in rows))
     (number_in 32 (codes "TURNS") rows)) (number_in 64 (codes "SEED") rows)
 
 abbrev pub live_in : List Row → Option c.Command

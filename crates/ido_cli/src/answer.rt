@@ -95,13 +95,14 @@ fn seeded_input(
     seed: u64,
     turns: u32,
     crashes: &Crashes,
+    journal: bool,
 ) -> Result<Said, OutOfMemory>
-    ensures { IfOk result (λ said. AnswerToInput (command.Seeded seed turns crashes.now) input.now said.status said.output.items) }
+    ensures { IfOk result (λ said. AnswerToInput (command.Seeded seed turns crashes.now journal) input.now said.status said.output.items) }
 {
     if input.len() > MOST_SOURCE_BYTES {
         return refused(alloc, 6, b"refused limit\n");
     }
-    seeded_answer(alloc, input, seed, turns, crashes.words())
+    seeded_answer(alloc, input, seed, turns, crashes.words(), journal)
 }
 
 /// The answer to an input of `live`.
@@ -157,7 +158,8 @@ pub fn answer(alloc: Global, command: Command, input: &[u8]) -> Result<Said, Out
             seed,
             turns,
             crashes,
-        } => seeded_input(alloc, input, seed, turns, &crashes),
+            journal,
+        } => seeded_input(alloc, input, seed, turns, &crashes, journal),
         Command::Live { .. }
         | Command::Recover { .. }
         | Command::Upgrade { .. }

@@ -55,11 +55,12 @@ pub enum Command {
         rounds: u32,
         seed: u32,
     },
-    /// Runs a compiled source by what a seed draws: so many draws, 0 to 1,000,000, and crashes after some of them.
+    /// Runs a compiled source by what a seed draws: so many draws, 0 to 1,000,000, and crashes after some of them. Writes the report, or the journal.
     Seeded {
         seed: u64,
         turns: u32,
         crashes: Crashes,
+        journal: bool,
     },
     /// Runs a compiled source with each hart in a thread of its own: legs of so many turns of each hart, 0 to 1,000,000, which the
     /// crashes end, and with evictions that a seed draws, where there is one. Writes the report, or the journal.
@@ -226,17 +227,19 @@ fn with_make<'a>(alloc: Global, table: clap::Command<'a>) -> Result<clap::Comman
     table.subcommand(two)
 }
 
-/// A table with the command `seeded` more, which takes two numbers and any number of others.
+/// A table with the command `seeded` more, which takes two numbers and any number of others, and a flag.
 fn with_seeded<'a>(alloc: Global, table: clap::Command<'a>) -> Result<clap::Command<'a>, AllocError>
     ensures { IfOk result (λ c. app_of c ≡ with_subcommand (app_of table.entry) seeded_shape) }
 {
     let seed = number_word(alloc, "SEED", long_parser());
     let turns = number_word(alloc, "TURNS", turns_parser());
     let crashes = crash_words(alloc);
+    let journal = flag(alloc, "journal");
     let one = clap::Command::new(alloc, "seeded").arg(seed)?;
     let two = one.arg(turns)?;
     let three = two.arg(crashes)?;
-    table.subcommand(three)
+    let four = three.arg(journal)?;
+    table.subcommand(four)
 }
 
 /// A table with the command `live` more, which takes a number and any number of others, an option and a flag.
@@ -412,11 +415,13 @@ fn seeded_in(alloc: Global, matches: &ArgMatches) -> Result<Option<Command>, Out
     let Some(turns) = short_number(matches, "TURNS") else {
         return Ok(None);
     };
+    let journal = is_set(matches, "journal");
     match crashes_in(alloc, matches)? {
         Some(crashes) => Ok(Some(Command::Seeded {
             seed,
             turns,
             crashes,
+            journal,
         })),
         None => Ok(None),
     }

@@ -92,8 +92,8 @@ pub fn older_sources_come_first()
     one_verdict();
 }
 
-/// What `live --journal` writes of a source that has no line `%%` is an input of `play`, which answers it with the report of the very events that are told:
-/// it is refused nowhere, and the source is compiled again, to which translation isn't said. A source that doesn't end with an LF has one then, and is
+/// What `live --journal` or `seeded --journal` writes of a source that has no line `%%` is an input of `play`, which answers it with the report of the very
+/// events that are told: it is refused nowhere, and the source is compiled again, to which translation isn't said. A source that doesn't end with an LF has one then, and is
 /// accepted with it as it is without; only where that makes it longer than a source may be, the input is past the limits.
 pub fn journals_are_played()
     ensures { JournalsArePlayed }

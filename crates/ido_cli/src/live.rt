@@ -136,7 +136,7 @@ fn run_legs<R: Threads + Wait + Sync, G: Gate + Sync>(
 }
 
 /// The report of a life, or an input that plays its journal again.
-fn told(
+pub(crate) fn told(
     alloc: Global,
     journal: bool,
     source: &[u8],

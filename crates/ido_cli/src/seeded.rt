@@ -5,12 +5,11 @@ ghost use Rattle.c_tree.specs.Flats.{flat_of};
 ghost use Rattle.flat_compile.specs.TranslatedForms.{IsTranslated};
 ghost use Rattle.compiler_correctness.specs.Compilations.{IsCompilation};
 ghost use Rattle.ido_compile.specs.CompileAnswers.{translation_in};
-ghost use Rattle.ido_cli.specs.Answers.{SeededAnswer};
+ghost use Rattle.ido_cli.specs.Answers.{IsTold, SeededAnswer};
 ghost use Rattle.ido_cli.specs.Draws.{drawn_by};
-ghost use Rattle.ido_cli.specs.Plays.{IsRunBy};
 
+use crate::live::told;
 use crate::refusal::source_refused;
-use crate::report::say;
 use crate::said::Said;
 use ido_base::limits::LINE_BYTES;
 use ido_base::memory::OutOfMemory;
@@ -20,18 +19,21 @@ use run_scripts::events::make_events;
 use run_tracker::life::Life;
 use std::alloc::Global;
 
-/// What is said of a drawn run of a compiled source.
+/// What is said of a drawn run of a compiled source: its report or its journal.
 fn drawn_answer(
     alloc: Global,
+    source: &[u8],
     compiled: &Compiled,
     seed: u64,
     turns: u32,
     crashes: &[u64],
+    journal: bool,
 ) -> Result<Said, OutOfMemory>
     requires translated { IsTranslated (flat_of compiled.now.flat) compiled.now.translated.object compiled.now.translated.marks compiled.now.translated.cuts }
     requires compilation { IsCompilation (translation_in compiled.now) }
     ensures { IfOk result (λ said.
-        IsRunBy (translation_in compiled.now) (drawn_by (translation_in compiled.now) seed turns crashes.now) said.status said.output.items) }
+        IsTold journal source.now (translation_in compiled.now) (drawn_by (translation_in compiled.now) seed turns crashes.now) said.status
+        said.output.items) }
 {
     let object = &compiled.translated.object;
     let threads = object.code.len() as u32;
@@ -49,22 +51,23 @@ fn drawn_answer(
     let count = events.len() as u64;
     let mut life = Life::new(alloc, object, &compiled.translated.marks, count)?;
     make_events(&mut life, &events);
-    say(alloc, &compiled.flat, &life)
+    told(alloc, journal, source, &compiled.flat, &life)
 }
 
-/// The answer to a source text: the report of its drawn run, with so many draws and a crash after each of these numbers of them.
+/// The answer to a source text: the report or the journal of its drawn run, with so many draws and a crash after each of these numbers of them.
 pub fn seeded_answer(
     alloc: Global,
     source: &[u8],
     seed: u64,
     turns: u32,
     crashes: &[u64],
+    journal: bool,
 ) -> Result<Said, OutOfMemory>
     requires { length source.now ≤ MOST_SOURCE_BYTES }
-    ensures { IfOk result (λ said. SeededAnswer seed turns crashes.now source.now said.status said.output.items) }
+    ensures { IfOk result (λ said. SeededAnswer seed turns crashes.now journal source.now said.status said.output.items) }
 {
     match compile(alloc, source) {
-        Ok(compiled) => drawn_answer(alloc, &compiled, seed, turns, crashes),
+        Ok(compiled) => drawn_answer(alloc, source, &compiled, seed, turns, crashes, journal),
         Err(error) => source_refused(alloc, source, error),
     }
 }

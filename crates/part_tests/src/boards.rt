@@ -102,3 +102,48 @@ fn turns(rt: HostRuntime) -> Result<(), Fail> {
     assert_eq!(rt; core.journal.len(), 7);
     Ok(())
 }
+
+/// A hart of six steps, and a seat that evicts: the hart's second turn waits for the first one of the other seat.
+#[test]
+fn first_turns(rt: HostRuntime) -> Result<(), Fail> {
+    let room = Vec::with_capacity(rt.alloc(), 2)?;
+    let core = Counter::new(rt.alloc(), 20)?;
+    let (board, seats) = Board::new(rt.alloc(), core, 2, 8, 20)?;
+    let (mut hart, mut evictor) = new_seats(&board, seats);
+    let one = board.try_turn(&mut hart, 1);
+    let early = board.try_turn(&mut hart, 1);
+    let evicted = board.evict_turn(&rt, &mut evictor, 0, 255);
+    let five = board.try_turn(&mut hart, 64);
+    let (core, counts) = end(board, hart, evictor, room);
+    assert_eq!(rt;
+        one,
+        TryTurn::Did {
+            events: 1,
+            last: Reply::Moved
+        }
+    );
+    assert_eq!(rt;
+        early,
+        TryTurn::Later {
+            ticket: 2,
+            serving: 1
+        }
+    );
+    assert_eq!(rt;
+        evicted,
+        Turn::Did {
+            events: 1,
+            last: Reply::Device
+        }
+    );
+    assert_eq!(rt;
+        five,
+        TryTurn::Did {
+            events: 5,
+            last: Reply::Moved
+        }
+    );
+    assert_eq!(rt; counts.as_slice(), [6, 1].as_slice());
+    assert_eq!(rt; core.journal.len(), 7);
+    Ok(())
+}

@@ -6,9 +6,9 @@ use Rattle.run_tracker.specs.ObjectLives.{Course}
 use Rattle.run_scripts.specs.Draws.{drawn_run}
 use Rattle.run_scripts.proofs.Public.{run_valid}
 use Rattle.ido_compile.specs.CompileAnswers.{translation_in}
+use Rattle.ido_cli.specs.Answers.{IsTold}
 use Rattle.ido_cli.specs.Draws.{drawn_by}
-use Rattle.ido_cli.specs.Plays.{IsRunBy}
-use Rattle.ido_cli.proofs.PlayedRuns.{as_many_threads, counts_sections, harts_of_life, has_room, run_by}
+use Rattle.ido_cli.proofs.PlayedRuns.{as_many_threads, counts_sections, harts_of_life, has_room, told_by}
 use Rattle.ido_cli.proofs.DrawnLives.{all_valid, has_made, many_harts, room_for}
 use Rattle.ido_cli.proofs.seeded.drawn_answer.Goals as goal
 
@@ -41,14 +41,14 @@ make_events-requires-clause-room c = λ _.
     room_for y.object y.marks c.len-count.result c.in_ok-life.life c.in_ok-life.ensures (length c.deref.result.now)
     (omega (arith, ap length c.deref.ensures.value, c.len-count.ensures, c.in_ok-events.events.ok))
 
-pub say-requires-clause-room : goal.say-requires-clause-room
-say-requires-clause-room c =
+pub told-requires-clause-room : goal.told-requires-clause-room
+told-requires-clause-room c =
     let x = c.args.compiled.now in
     let y = x.translated in
     has_room (flat_of x.flat) y.object y.marks y.cuts c.requires.translated
 
-pub say-requires-clause-harts : goal.say-requires-clause-harts
-say-requires-clause-harts c =
+pub told-requires-clause-harts : goal.told-requires-clause-harts
+told-requires-clause-harts c =
     let x = c.args.compiled.now in
     let y = x.translated in
     let life = c.make_events.new.core in
@@ -56,8 +56,8 @@ say-requires-clause-harts c =
     c.make_events.ensures.history in
     harts_of_life (flat_of x.flat) y.object y.marks y.cuts life c.deref.result.now made
 
-pub say-requires-clause-counted : goal.say-requires-clause-counted
-say-requires-clause-counted c =
+pub told-requires-clause-counted : goal.told-requires-clause-counted
+told-requires-clause-counted c =
     let x = c.args.compiled.now in
     let y = x.translated in
     let flat = flat_of x.flat in
@@ -83,7 +83,8 @@ returns c =
     c.deref.ensures.value ∙ c.in_ok-events.ensures
     ∙ ap (λ (n : ℕ). drawn_run c.args.seed n crashes y.object.log c.len-threads.result ((c.len-bytes.result + 63) / 64)) c.from.ensures
     ∙ ap₂ (λ (t b : ℕ). drawn_run c.args.seed c.args.turns crashes y.object.log t ((b + 63) / 64)) threads bytes in
-    IfOk-weaker c.say.result _ _
+    IfOk-weaker c.told.result _ _
     (λ said is.
-    subst (λ (es : List Event). IsRunBy (translation_in x) es said.status said.output.items) drawn
-    (run_by flat y.object y.marks y.cuts life c.deref.result.now made c.requires.compilation said.status said.output.items is)) c.say.ensures
+    subst (λ (es : List Event). IsTold c.args.journal c.args.source.now (translation_in x) es said.status said.output.items) drawn
+    (told_by flat y.object y.marks y.cuts life c.deref.result.now made c.requires.compilation c.args.journal c.args.source.now said.status said.output.items
+    is)) c.told.ensures
