@@ -11,6 +11,8 @@ _ido() {
         words='--least'
     elif [[ ${COMP_WORDS[at]} == play ]]; then
         words='--fences'
+    elif [[ ${COMP_WORDS[at]} == seeded ]]; then
+        words='--journal'
     elif [[ ${COMP_WORDS[at]} == live ]]; then
         words='--evict --journal'
     fi

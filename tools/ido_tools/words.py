@@ -44,7 +44,7 @@ COMMANDS = (
     ("recover", "TURNS", "an image file", "the report of the run that goes on from it, on threads"),
     ("upgrade", "TURNS", "an image file of an older version", "the image file of the newest that is left of that run, where it is settled"),
     ("source", "", WITH_SCHEDULE, "the report of the source's own run"),
-    ("seeded", "SEED TURNS [CRASH]...", "a source", "the report of a run of it that is drawn from the seed"),
+    ("seeded", "SEED TURNS [CRASH]... [--journal]", "a source", "the report of a run of it that is drawn from the seed, or with `--journal` that run, as an input of `play`"),
     ("live", "TURNS [CRASH]... [--evict SEED] [--journal]", "a source", "the report of a run of it on threads, or with `--journal` that run, as an input of `play`"),
     ("make", "N SEED", "no input", "a source of four threads, which make N rounds each"),
     ("load", "N SEED", "no input", "that source is run on threads to its end, and what it left summed up"),

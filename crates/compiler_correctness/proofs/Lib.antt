@@ -11,3 +11,4 @@ mod ImageWords
 mod MarksReached
 mod BoundedDelay
 mod RecoveredRuns
+pub mod Public

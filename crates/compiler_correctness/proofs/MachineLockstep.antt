@@ -47,7 +47,7 @@ numbers_same [] (n ∷ ns) l same = absurd (omega (arith, l))
 numbers_same (h ∷ hs) [] l same = absurd (omega (arith, l))
 numbers_same (h ∷ hs) (n ∷ ns) l same = λ i. same 0 i ∷ numbers_same hs ns (omega (arith, l)) (λ e. same (suc e)) i
 
-variables_same : (hss : List (List History)) (nss : List (List ℤ)) → map length hss ≡ map length nss →
+pub variables_same : (hss : List (List History)) (nss : List (List ℤ)) → map length hss ≡ map length nss →
     ((v e : ℕ) → live_number (slice_index_or (slice_index_or hss v []) e (history_of (pos 0))) ≡ slice_index_or (slice_index_or nss v []) e (pos 0)) →
     map (map live_number) hss ≡ nss
 variables_same [] [] l same = refl

@@ -89,8 +89,8 @@ module _ (holders : List (Option ℕ)) (lock : ℕ) (free : slice_get holders lo
           (let none = ap one_if not_missing in omega (arith, none))
       | inr ne ↦
           let same : is_missing (set holders lock (Some h)) h asked ≡ is_missing holders h asked =
-              missing_is (set holders lock (Some h)) h asked ∙ ap (missing_by h) (get-set_other holders lock asked (Some h) ne)
-              ∙ sym (missing_is holders h asked) in
+          missing_is (set holders lock (Some h)) h asked ∙ ap (missing_by h) (get-set_other holders lock asked (Some h) ne)
+          ∙ sym (missing_is holders h asked) in
           let equal = ap one_if same in
           omega (arith, equal)
     ]

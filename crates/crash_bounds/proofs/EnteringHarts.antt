@@ -147,7 +147,7 @@ all_set : (test : Phase → Bool) (wanted : Bool) (w : World) (g : ℕ) (hart af
 all_set test wanted w g hart after here passes all h other there = elim (cases_eq h g) [
   | inl is ↦
       let same : Some after ≡ Some other =
-          sym (get-set_same w.harts g after hart here) ∙ (ap (slice_get (set w.harts g after)) (sym is) ∙ there) in
+      sym (get-set_same w.harts g after hart here) ∙ (ap (slice_get (set w.harts g after)) (sym is) ∙ there) in
       let equal : after ≡ other = cc in
       ap (λ (x : Hart). test x.phase) (sym equal) ∙ passes
   | inr ne ↦ all h other (sym (get-set_other w.harts g h after ne) ∙ there)
@@ -236,7 +236,7 @@ module _ (program : List (List Slot)) (w : World) (entering : IsEntering w) (mov
           let fewer = count_less w.holders lock r.there g (record_of w.log w.words g) r.among in
           let after_is = ap (left (count_missing (set w.holders lock (Some g)) (record_of w.log w.words g) g)) is in
           let less : left (count_missing (set w.holders lock (Some g)) (record_of w.log w.words g) g) hart.phase < left (missing_of w g) hart.phase =
-              omega (arith, left_is, after_is, fewer) in
+          omega (arith, left_is, after_is, fewer) in
           subst (λ (x : World). Goes w x g) (sym (ap (λ (o : Outcome). o.0) does))
           (goes_by w g hart here (set w.holders lock (Some g)) hart
           (λ h ne. count_stays w.holders lock r.there g h (λ e. ne (sym e)) (record_of w.log w.words h)) less
@@ -265,7 +265,7 @@ module _ (program : List (List Slot)) (w : World) (entering : IsEntering w) (mov
       wait_by (AwaitsOthers.all_have none does) =
           let less : left (missing_of w g) Resume < left (missing_of w g) hart.phase = omega (arith, waiting_is) in
           let all : AllPass is_taking false w = λ h other there.
-              not_taking other.phase (λ takes. none h (record { hart = other; here = there; phase_is = takes })) in
+          not_taking other.phase (λ takes. none h (record { hart = other; here = there; phase_is = takes })) in
           subst (λ (x : World). Goes w x g) (sym (ap (λ (o : Outcome). o.0) does))
           (goes_by w g hart here w.holders (record hart { phase = Resume }) (λ h ne. refl) less
           (none_takes (all_set is_taking false w g hart (record hart { phase = Resume }) here refl all)))
@@ -316,17 +316,17 @@ module _ (program : List (List Slot)) (w : World) (entering : IsEntering w) (mov
         let u = after_event program w (Step g) in
         let all : AllPass is_taking false w = none_still entering Run is refl in
         let out : (x : Hart) → slice_get w.harts g ≡ Some x → is_entering x.phase ≡ false = λ x there.
-            (let found : Some hart ≡ Some x = sym here ∙ there in
-            let equal : hart ≡ x = cc in
-            ap (λ (y : Hart). is_entering y.phase) (sym equal) ∙ ap is_entering is) in
+        (let found : Some hart ≡ Some x = sym here ∙ there in
+        let equal : hart ≡ x = cc in
+        ap (λ (y : Hart). is_entering y.phase) (sym equal) ∙ ap is_entering is) in
         let alike : GoesAlike w g (happens program w (Step g)) (happens program w (Step g)) = step_alike program w w g out (alike_refl w) in
         let own_zero : (most : ℕ) → IsWithin u g most = λ most x there.
-            (let zero_left = left_out (missing_of u g) x.phase (alike.out x there) in omega (arith, zero_left)) in
+        (let zero_left = left_out (missing_of u g) x.phase (alike.out x there) in omega (arith, zero_left)) in
         let others_same : (h most : ℕ) → h ≢ g → IsWithin w h most → IsWithin u h most = λ h most ne within x there.
-            (let was = sym (alike.others h ne) ∙ there in
-            let bound = within x was in
-            let same = left_apart (missing_of u h) (missing_of w h) x.phase (all h x was) in
-            omega (arith, bound, same)) in
+        (let was = sym (alike.others h ne) ∙ there in
+        let bound = within x was in
+        let same = left_apart (missing_of u h) (missing_of w h) x.phase (all h x was) in
+        omega (arith, bound, same)) in
         record {
           is = record {
             entering = none_takes (λ h x there. elim (cases_eq h g) [

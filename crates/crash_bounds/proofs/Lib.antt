@@ -2,3 +2,8 @@ mod CountedLocks
 mod EnteringHarts
 mod ShortRecords
 mod RoundsOfHarts
+mod Entries
+mod SectionsAlike
+mod SettledMemory
+mod SettledAlike
+mod Losses

@@ -90,7 +90,7 @@ module _ (program : List (List Slot)) where
       elim (cases_Bool (is_step_of h event)) [
         | inl is ↦
             let goes : Goes w v h =
-                subst (λ (e : Event). Goes w (after_event program w e) h) (sym (own_is h event is)) (step_goes program w entering moves.0 h) in
+            subst (λ (e : Event). Goes w (after_event program w e) h) (sym (own_is h event is)) (step_goes program w entering moves.0 h) in
             (along events v parts.1 moves.1 first.entering).lowers h most (goes.own most within)
         | inr other ↦
             let less : 1 ≤ (if is_step_of h event then 1 else 0) + own_steps h events = some in
@@ -154,10 +154,10 @@ module _ (log : Log) (program : List (List Slot)) (mutexes : ℕ) (words : List 
   entered most few events none moves hold h hart there =
       let v = after_events program crashed events in
       let first : (g : ℕ) → IsWithin crashed g (most + 3) = λ g x found.
-          (let bound = left_most (missing_of crashed g) x.phase in
-          let missing = missing_most crashed.holders (record_of crashed.log crashed.words g) g in
-          let kept : length (record_of crashed.log crashed.words g) ≤ most =
-              subst (λ (l : Log). length (record_of l crashed.words g) ≤ most) (sym log_is) (few crashed.words g) in
-          omega (arith, bound, missing, kept)) in
+      (let bound = left_most (missing_of crashed g) x.phase in
+      let missing = missing_most crashed.holders (record_of crashed.log crashed.words g) g in
+      let kept : length (record_of crashed.log crashed.words g) ≤ most =
+      subst (λ (l : Log). length (record_of l crashed.words g) ≤ most) (sym log_is) (few crashed.words g) in
+      omega (arith, bound, missing, kept)) in
       left_none (missing_of v h) hart.phase
       (rounds program (length program) (most + 3) events crashed hold none moves first_entering first_count first h hart there)

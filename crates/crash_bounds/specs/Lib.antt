@@ -1,1 +1,4 @@
 pub mod Rounds
+pub mod Entries
+pub mod SettledAlike
+pub mod Losses

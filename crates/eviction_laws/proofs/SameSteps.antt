@@ -128,7 +128,7 @@ module _ (w : World) (ws : List Word) (same : values_of ws ≡ values_of w.words
     apart = inr refl;
     stops = λ other there stopped.
         absurd (let never : false ≡ true =
-            ap has_stopped (sym phase) ∙ (ap (λ (x : Hart). has_stopped x.phase) (set_is (with_holder w lock holder) h hart other there) ∙ stopped) in cc);
+        ap has_stopped (sym phase) ∙ (ap (λ (x : Hart). has_stopped x.phase) (set_is (with_holder w lock holder) h hart other there) ∙ stopped) in cc);
   }
 
   module _ (hart : Hart) (phase : hart.phase ≡ Run) where
@@ -158,8 +158,8 @@ module _ (w : World) (ws : List Word) (same : values_of ws ≡ values_of w.words
           moved v h (record (gone_on hart) { queue = hart.queue ++ e ∷ [] }),
         ) in
         let alike : GoesAlike w h (entry (entry_of w.words line)).0 (entry (entry_of ws line)).1 =
-            subst (λ (e : Entry). GoesAlike w h (entry (entry_of w.words line)).0 (entry e).1) (sym (same_entry w.words ws same line))
-            (goes_on w.words ws (record (gone_on hart) { queue = hart.queue ++ entry_of w.words line ∷ [] }) _ same refl) in
+        subst (λ (e : Entry). GoesAlike w h (entry (entry_of w.words line)).0 (entry e).1) (sym (same_entry w.words ws same line))
+        (goes_on w.words ws (record (gone_on hart) { queue = hart.queue ++ entry_of w.words line ∷ [] }) _ same refl) in
         both w h (nat_lt (length hart.queue) 16) _ _ _ _ alike (drains hart.queue)
 
     acquires : (lock : ℕ) (holder : Option (Option ℕ)) → GoesAlike w h (acquired w h hart lock holder) (acquired v h hart lock holder)
@@ -194,7 +194,7 @@ module _ (w : World) (ws : List Word) (same : values_of ws ≡ values_of w.words
     applies (Continues registers pc) = goes_on w.words ws (record hart { registers = registers; pc = pc }) _ same refl
     applies (Loads address bytes signed register) = accesses address bytes _ _ (
         let loads : ℕ → Hart = λ value.
-            record (gone_on hart) { registers = written hart.registers register (load_result bytes signed value) } in
+        record (gone_on hart) { registers = written hart.registers register (load_result bytes signed value) } in
         subst (λ (value : ℕ). GoesAlike w h (moved w h (loads (loaded w.words (byte_number address) bytes))) (moved v h (loads value)))
         (sym (same_loaded w.words ws same (byte_number address) bytes))
         (goes_on w.words ws (loads (loaded w.words (byte_number address) bytes)) _ same refl))
@@ -242,7 +242,7 @@ module _ (w : World) (ws : List Word) (same : values_of ws ≡ values_of w.words
   settles o p alike =
       let whole : Outcome → Outcome = λ q. (done_if_over v h (slice_get q.0.harts h) q.0, q.1) in
       let is : p ≡ (with_words o.0 p.0.words, o.1) =
-          ap (λ (x : World). (x, p.1)) (other_is o.0 p.0 alike.worlds) ∙ ap (λ (r : Reply). (with_words o.0 p.0.words, r)) alike.reply in
+      ap (λ (x : World). (x, p.1)) (other_is o.0 p.0 alike.worlds) ∙ ap (λ (r : Reply). (with_words o.0 p.0.words, r)) alike.reply in
       let as_words : GoesAlike w h o (with_words o.0 p.0.words, o.1) = subst (λ (q : Outcome). GoesAlike w h o q) is alike in
       subst (λ (q : Outcome). GoesAlike w h (done_if_over w h (slice_get o.0.harts h) o.0, o.1) (whole q)) (sym is)
       (in_words o p.0.words as_words)
@@ -391,7 +391,7 @@ module _ (marks : List (List ℕ)) (program : List (List Slot)) where
   along _ _ (both_step h one other rest) w u s t out d e =
       let same = alike marks program w u out d h in
       let more = along one other rest (after_event program w (Step h)) (after_event program u (Step h)) (steps_after marks program w (Step h) s)
-          (steps_after marks program u (Step h) t) (step_out program w h out) same.worlds (same_begun marks program w u out d h s t e) in
+      (steps_after marks program u (Step h) t) (step_out program w h out) same.worlds (same_begun marks program w u out d h s t e) in
       record {
         replies = ap (λ (r : Reply). r ∷ step_replies program (after_event program u (Step h)) other) same.reply
             ∙ ap (λ (rs : List Reply). reply_to program w (Step h) ∷ rs) more.replies;
@@ -406,7 +406,7 @@ module _ (marks : List (List ℕ)) (program : List (List Slot)) where
       let v = after_event program w (Evict line mask) in
       let nearer : DifferInDurability v u = alike_trans v w u (alike_sym w v (evicts_alike program w line mask)) d in
       let more = along one other rest v u (steps_after marks program w (Evict line mask) s) t (evicted_enters program w line mask out) nearer
-          (e ∙ sym (evicted_begun marks program w line mask s)) in
+      (e ∙ sym (evicted_begun marks program w line mask s)) in
       record {
         replies = more.replies;
         worlds = more.worlds;

@@ -78,7 +78,7 @@ module _ (ws vs : List Word) (same : values_of vs ≡ values_of ws) where
   pub same_entry : (line : ℕ) → entry_of vs line ≡ entry_of ws line
   same_entry line =
       let lines : values_of (line_words vs line) ≡ values_of (line_words ws line) =
-          line_values vs line ∙ ap (λ (values : List (List ℕ)). take 8 (drop (8 * line) values)) same ∙ sym (line_values ws line) in
+      line_values vs line ∙ ap (λ (values : List (List ℕ)). take 8 (drop (8 * line) values)) same ∙ sym (line_values ws line) in
       let positions : map last_position (line_words vs line) ≡ map last_position (line_words ws line) =
-          positions_are (line_words vs line) ∙ ap (map last_of) lines ∙ sym (positions_are (line_words ws line)) in
+      positions_are (line_words vs line) ∙ ap (map last_of) lines ∙ sym (positions_are (line_words ws line)) in
       ap (λ (ps : List ℕ). record { line = line; positions = ps }) positions

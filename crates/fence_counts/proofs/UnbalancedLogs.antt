@@ -1,8 +1,8 @@
 -- At every moment the fences that a boundary has ahead, and those that are due for its point, differ by one at most.
-use Rattle.std.proofs.Common.{◌≡◌, refl, ℕ, ◌+◌, ◌≤◌, List, [], ◌∷◌, ◌++◌, map, Bool, true, false, ◌||◌, if◌then◌else◌, ap, sym, ◌∙◌, arith}
+use Rattle.std.proofs.Common.{◌≡◌, refl, ℕ, ◌+◌, ◌≤◌, List, [], ◌∷◌, ◌++◌, map, Bool, true, false, ◌||◌, if◌then◌else◌, ap, ◌∙◌, arith}
 use Rattle.std.specs.List.{list_any}
 use Rattle.log_schemes.specs.declared.log.Log.{Log}
-use Rattle.rv64_isa.specs.Rows.{Effect, Cleans, Stores}
+use Rattle.rv64_isa.specs.Rows.{Effect}
 use Rattle.boundary_code.specs.Boundaries.{commit_effects}
 use Rattle.log_states.specs.Logs.{Record}
 use Rattle.log_states.specs.Stages.{LogConfig, LogIs, Stage, Writing, Written, Pointed, PointQueued, Over, stores_of, cleans_of, is_store, fences_ahead}

@@ -1,14 +1,16 @@
 -- Fences that a hart has finished, and boundaries whose point it has stored, in all lives: as a core counts both.
-use Rattle.std.specs.Prelude.{ℕ, ◌+◌, ◌*◌, ◌<◌, ◌≤◌, List, [], ◌∷◌, length}
+use Rattle.std.specs.Prelude.{◌≡◌, ℕ, ◌+◌, ◌*◌, ◌<◌, ◌≤◌, List, [], ◌∷◌, ◌++◌, length, slice_get, Some, true}
 use Rattle.machine_events.specs.declared.event.Event.{Event}
 use Rattle.machine_events.specs.declared.event.Event.TheVariants.{Step, Evict, Crash, Start}
 use Rattle.machine_events.specs.Cores.{finished_fences, point_stores}
 use Rattle.machine_model.specs.Executables.{first_world}
-use Rattle.machine_model.specs.Schedule.{only_life}
+use Rattle.machine_model.specs.Machine.{Hart}
+use Rattle.machine_model.specs.Schedule.{begins_life, only_life}
+use Rattle.machine_model.specs.declared.phase.Phase.TheVariants.{Ended}
 use Rattle.run_tracker.specs.ObjectLives.{LifeConfig, living}
 use Rattle.crash_simulation.specs.Systems.{System, IsSystem}
 use Rattle.crash_simulation.specs.BoundaryFences.{boundary_fences}
-use Rattle.compiler_correctness.specs.Translations.{Translation}
+use Rattle.compiler_correctness.specs.Translations.{GoOn, Translation, world}
 use Rattle.compiler_correctness.specs.Laws.{translation_of}
 
 -- how often power is lost
@@ -39,3 +41,22 @@ pub record AreFencesOfPoints (c : Translation) (events : List Event) (h : ℕ) :
 -- after any events, of each hart of a compiled program, however its threads log
 abbrev pub FencesFollowPoints : Type 0
 FencesFollowPoints = (y : System) → IsSystem y → (events : List Event) (h : ℕ) → h < length y.runs.program → AreFencesOfPoints (translation_of y) events h
+
+-- ---- A life without a crash
+
+-- a life begins after the events: they are none, or the last of them is a start by which another one begins
+pub data BeginsLife (c : Translation) : List Event → Type 0 where
+  first_begins : BeginsLife c []
+  later_begins : (before : List Event) → begins_life (world c before) Start ≡ true → BeginsLife c (before ++ Start ∷ [])
+
+-- by the events of a life, from where it begins on, the hart has finished as many fences as the boundaries have whose point it has stored
+abbrev pub AreFencesOfLife : Translation → (before life : List Event) → (h : ℕ) → Type 0
+AreFencesOfLife c before life h =
+    finished_fences living (record (opening c) { world = world c before }) life h
+    ≡ boundary_fences c.runs.log * point_stores living (record (opening c) { world = world c before }) life h
+
+-- a life in which power stays on, of each of its harts that has ended
+abbrev pub EndedLivesFence : Type 0
+EndedLivesFence = (y : System) → IsSystem y → (before life : List Event) (h : ℕ) → h < length y.runs.program → BeginsLife (translation_of y) before →
+    GoOn life → (hart : Hart) → slice_get (world (translation_of y) (before ++ life)).harts h ≡ Some hart → hart.phase ≡ Ended →
+    AreFencesOfLife (translation_of y) before life h

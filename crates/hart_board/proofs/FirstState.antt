@@ -64,7 +64,8 @@ module _ {C : Type 0} (c : Play) (is_play : List Event → C → Type 0) (terms 
     first = λ t e below. first_has (numbers_from 0 terms.seats) t e;
   }
 
-  pub opens : (core : C) → terms.seats < 2 ^ 32 → is_play [] core → BoardInv c is_play terms (opening (0 ∷ terms.seats ∷ []) (core ∷ []) (Seated (newcomer terms)))
+  pub opens : (core : C) → terms.seats < 2 ^ 32 → is_play [] core →
+      BoardInv c is_play terms (opening (0 ∷ terms.seats ∷ []) (core ∷ []) (Seated (newcomer terms)))
   opens core few plays = record {
     journal = [];
     legal = nothing_legal;

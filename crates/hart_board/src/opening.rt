@@ -111,7 +111,8 @@ impl<C: Core> Board<C> {
         requires me { (n m : ℕ) × (place.old.me ≡ (Seated (dealt self.now.table.shared.key (n ∷ numbers_from (n + 1) m)), [])) }
         ensures table { (place.new.table_id ≡ self.now.table.shared.table_id) × (result.table_id ≡ self.now.table.shared.table_id) }
         ensures dealt { (n m : ℕ) → place.old.me ≡ (Seated (dealt self.now.table.shared.key (n ∷ numbers_from (n + 1) m)), [])
-            → (place.new.me ≡ (Seated (dealt self.now.table.shared.key (numbers_from (n + 1) m)), [])) × (result.me ≡ (Seated (dealt self.now.table.shared.key (n ∷ [])), [])) }
+            → (place.new.me ≡ (Seated (dealt self.now.table.shared.key (numbers_from (n + 1) m)), []))
+            × (result.me ≡ (Seated (dealt self.now.table.shared.key (n ∷ [])), [])) }
     {
         self.table.shared.split_seat::<DealsFirst>(place)
     }

@@ -58,7 +58,7 @@ pub plays : {E : Type 0} (asked : Asked) (input source : List ℕ) (r : Result S
     source ≡ source_of input
     → IfOk r (λ said. ScriptedAnswer (Says asked (source_of input)) input said.status said.output.items) →
     IfOk r (λ said. AnswerToInput (command_asking asked) input said.status said.output.items)
-plays asks.Report input source (Ok said) short short_source is answer =
+plays (asks.Report fences) input source (Ok said) short short_source is answer =
     within_limits (not_past input short (subst (λ s. length s ≤ MOST_SOURCE_BYTES) is short_source)) answer
 plays asks.Image input source (Ok said) short short_source is answer =
     within_limits (not_past input short (subst (λ s. length s ≤ MOST_SOURCE_BYTES) is short_source)) answer
@@ -67,7 +67,7 @@ plays asked input source (Err e) short short_source is answer = tt
 -- where the limits are past, whatever is asked
 pub plays_past : (asked : Asked) (input : List ℕ) (status : ℕ) (output : List ℕ) → IsSourcePastLimits input → Refuses 6 status (codes "limit") output →
     AnswerToInput (command_asking asked) input status output
-plays_past asks.Report input status output past refuses = past_limits past refuses
+plays_past (asks.Report fences) input status output past refuses = past_limits past refuses
 plays_past asks.Image input status output past refuses = past_limits past refuses
 
 pub runs : {E : Type 0} (input source : List ℕ) (r : Result Said E) → length input ≤ MOST_INPUT_BYTES → length source ≤ MOST_SOURCE_BYTES →

@@ -1,10 +1,11 @@
 -- What is played of a compiled source: the machine and the kept steps of its translation, which are those of the source.
 use Rattle.std.proofs.Common.{◌≡◌, refl, ℕ, suc, ◌+◌, ◌<◌, ◌≤◌, List, [], ◌∷◌, ◌++◌, length, map, take}
-use Rattle.std.proofs.Common.{sym, ◌∙◌, ap, ap₂, subst, Option, Some, None, min, slice_index_or, zero-add, Bool, true, false}
-use Rattle.std.proofs.lemmas.List.{length-map, take_all}
+use Rattle.std.proofs.Common.{sym, ◌∙◌, ap, ap₂, subst, Option, Some, None, min, slice_index_or, zero-add, Bool, true, false, ◌==◌}
+use Rattle.std.proofs.lemmas.List.{append-nil, length-map, take_all}
+use Rattle.std.specs.Prelude.{if◌then◌else◌}
 use Rattle.log_schemes.specs.declared.log.Log.{Log}
 use Rattle.machine_events.specs.declared.event.Event.{Event}
-use Rattle.machine_events.specs.Cores.{passed_count, played}
+use Rattle.machine_events.specs.Cores.{finished_fences, passed_count, played}
 use Rattle.ido_base.specs.declared.limits.TheConstants.{MOST_EVENTS}
 use Rattle.c_tree.specs.Flats as f
 use Rattle.c_tree.specs.Source as m
@@ -32,16 +33,18 @@ use Rattle.compiler_correctness.specs.Compilations.{IsCompilation}
 use Rattle.run_scripts.proofs.Public.{fault_by_bound}
 use Rattle.run_scripts.specs.Bounds.{lines_bound}
 use Rattle.run_scripts.specs.Reports as r
+use Rattle.run_scripts.specs.Reports.{fence_lines}
 use Rattle.run_scripts.specs.Plays.{PlayFault, play_fault, script_events}
 use Rattle.run_scripts.specs.Scripts.{Line}
 use Rattle.run_tracker.specs.ObjectLives.{Course, LifeConfig, ends_at_point, living, new_life, opening_of, steps_in, world_of}
 use Rattle.ido_cli.specs.Answers.{IsTold}
 use Rattle.ido_cli.specs.links.LegRuns.{IsSaidOf}
 use Rattle.run_scripts.specs.Journals.{journal_text}
-use Rattle.ido_cli.specs.Plays.{IsRunBy, ScriptAnswer, beginning, events_by, faulty}
+use Rattle.ido_cli.specs.Plays.{IsPlayed, IsRunBy, ScriptAnswer, beginning, events_by, faulty, fences_by}
 use Rattle.ido_cli.specs.Refusals.{IsRefusedAt, play_fault_code, play_fault_place}
 use Rattle.ido_cli.specs.Reports.{machine_state, unsettled_harts}
 use Rattle.ido_cli.specs.links.CountedSections.{CountsSections}
+use Rattle.ido_cli.specs.links.FencedReports.{IsReportWith, fences_in}
 use Rattle.ido_cli.specs.links.PlayedLives.{HasPlayed}
 use Rattle.ido_cli.specs.Runs.{IsReport, named}
 use Rattle.ido_cli.proofs.EndedSections.{are_ended, at_points}
@@ -121,6 +124,25 @@ module _ (flat : f.Flat) (object : Object) (marks : Marks) (cuts : Cuts) (life :
         IsTold journal source (translation_to flat object marks cuts) events status output
     told_by false source status output told = run_by status output told
     told_by true source status output told = (told.0, told.1 ∙ ap (journal_text source) p.journal)
+
+    -- the fences that it has counted are those of the events
+    same_fences : fences_in life ≡ fences_by (translation_to flat object marks cuts) events
+    same_fences =
+        ap₂ (λ (x : LifeConfig) (es : List Event). map (finished_fences living x es) (numbers_from 0 (length x.runs.program))) p.begins p.journal
+
+    pub played_by : (asked : Bool) (status : ℕ) (output : List ℕ) →
+        IsReportWith asked (machine_state flat (world_of life) (schedules (steps_in life))) (fences_in life) status output →
+        IsPlayed asked (translation_to flat object marks cuts) events status output
+    played_by false status output told =
+        subst (IsRunBy (translation_to flat object marks cuts) events status) (sym (told.output_is ∙ append-nil told.report))
+        (run_by status told.report told.reported)
+    played_by true status output told = record {
+      report = told.report;
+      run = run_by status told.report told.reported;
+      output_is =
+          told.output_is
+          ∙ ap (λ (fences : List ℕ). told.report ++ (if status == 0 then fence_lines fences else [])) same_fences;
+    }
 
     -- it has counted the sections that the source ends
     pub counts_sections : length object.code.items ≡ length flat.threads → CountsSections flat life

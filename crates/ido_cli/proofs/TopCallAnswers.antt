@@ -20,7 +20,7 @@ use Rattle.ido_cli.specs.Commands.{command_of, is_unread, reads_input}
 use Rattle.ido_cli.specs.Runs.{RunAnswer, ran, stopped, run_state, status_by}
 use Rattle.ido_cli.specs.Images.{IsImageAfter}
 use Rattle.ido_cli.specs.Inputs.{source_of}
-use Rattle.ido_cli.specs.Plays.{IsRunBy, faulty, ran as ran_by}
+use Rattle.ido_cli.specs.Plays.{IsFencedRun, IsRunBy, faulty, ran as ran_by}
 use Rattle.ido_cli.specs.Answers.{CompileAnswer, uncompiled, compiled, RegionsAnswer, uncut, cut, ScriptedAnswer}
 use Rattle.ido_cli.specs.Answers.{unplayed, no_script, of_script, SourceAnswer, unaccepted, no_schedule, of_schedules}
 use Rattle.ido_cli.specs.Answers.{OrderAnswer, unlocked, unordered, ordered}
@@ -43,7 +43,7 @@ some_longer n = (replicate (n + 1) 0, omega (arith, length-replicate {A = ℕ} (
 long_is_past : (c : Command) (input : List ℕ) → reads_input c ≡ true → MOST_INPUT_BYTES < length input → IsPastLimits c input
 long_is_past command.Compile input reads long = omega (arith, long)
 long_is_past (command.Regions least) input reads long = omega (arith, long)
-long_is_past command.Play input reads long = inl long
+long_is_past (command.Play fences) input reads long = inl long
 long_is_past command.Source input reads long = inl long
 long_is_past command.List input reads long = long
 long_is_past command.Image input reads long = inl long
@@ -74,7 +74,7 @@ any_input : (c : Command) (input other : List ℕ) (status : ℕ) (output : List
     AnswerToInput c other status output
 any_input command.Compile input other status output unread answer = cc unread
 any_input (command.Regions least) input other status output unread answer = cc unread
-any_input command.Play input other status output unread answer = cc unread
+any_input (command.Play fences) input other status output unread answer = cc unread
 any_input command.Source input other status output unread answer = cc unread
 any_input command.List input other status output unread answer = cc unread
 any_input command.Image input other status output unread answer = cc unread
@@ -215,8 +215,10 @@ of_list input status output (of_object object read e told) h = not_four_or_seven
 of_command : (c : Command) (input : List ℕ) (status : ℕ) (output : List ℕ) → CommandAnswer c input status output → (status ≡ 4) ⊎ (status ≡ 7) → ⊥
 of_command command.Compile input status output answer h = of_compile input status output answer h
 of_command (command.Regions least) input status output answer h = of_regions least input status output answer h
-of_command command.Play input status output answer h =
+of_command (command.Play false) input status output answer h =
     of_scripted IsRunBy (λ c events s o run. by_unsettled _ s run.reported.status_is) input status output answer h
+of_command (command.Play true) input status output answer h =
+    of_scripted IsFencedRun (λ c events s o fenced. by_unsettled _ s fenced.run.reported.status_is) input status output answer h
 of_command command.Source input status output answer h = of_source input status output answer h
 of_command command.List input status output answer h = of_list input status output answer h
 of_command command.Image input status output answer h =

@@ -17,7 +17,7 @@ use Rattle.machine_model.specs.Machine.{World}
 use Rattle.compiler_correctness.specs.Translations.{Translation}
 use Rattle.ido_cli.specs.Draws.{IsGenerated}
 use Rattle.ido_cli.specs.Images.{IsImageAfter}
-use Rattle.ido_cli.specs.Plays.{IsRunBy, ScriptAnswer, faulty, ran as ran_by}
+use Rattle.ido_cli.specs.Plays.{IsFencedRun, IsPlayed, IsRunBy, ScriptAnswer, faulty, ran as ran_by}
 use Rattle.ido_cli.specs.Refusals.{IsRefusedAt, code_of, fault_code, fault_place, line_after, line_at}
 use Rattle.ido_cli.specs.Refusals.{line_at_byte, line_at_step, object_fault_code, object_fault_place}
 use Rattle.ido_cli.specs.Refusals.{script_fault_code, script_fault_place, stop_code}
@@ -203,8 +203,11 @@ module _ (one_flat : OneFlat) (one_fault : OneFault) (not_both : NotBoth) (one_s
     of_scripted input status output (of_script flat is lines read c made answer) =
         keeps flat is (not_of_script c lines input (rest_begins input) status output answer)
 
-  of_play : (input : List ℕ) (status : ℕ) (output : List ℕ) → PlayAnswer input status output → Verdict (source_of input) status output
-  of_play input status output answer = of_scripted IsRunBy (λ c events s o run. not_by_unsettled _ s run.reported.status_is) input status output answer
+  of_play : (fences : Bool) (input : List ℕ) (status : ℕ) (output : List ℕ) → PlayAnswer fences input status output → Verdict (source_of input) status output
+  of_play false input status output answer =
+      of_scripted IsRunBy (λ c events s o run. not_by_unsettled _ s run.reported.status_is) input status output answer
+  of_play true input status output answer =
+      of_scripted IsFencedRun (λ c events s o fenced. not_by_unsettled _ s fenced.run.reported.status_is) input status output answer
 
   of_image_of : (input : List ℕ) (status : ℕ) (output : List ℕ) → ImageAnswer input status output → Verdict (source_of input) status output
   of_image_of input status output answer =
@@ -309,11 +312,11 @@ module _ (one_flat : OneFlat) (one_fault : OneFault) (not_both : NotBoth) (one_s
   one_within (command.Regions least) input status other output written within (breaks_rule one) told more =
       one_refusal input status other output written one (of_regions least input status output told) (of_regions least input other written more)
   one_within (command.Regions least) input status other output written within (misspelled takes flat is x bad) told more = absurd takes
-  one_within command.Play input status other output written within (plain n) told more = absurd n
-  one_within command.Play input status other output written within (breaks_rule one) told more =
-      one_refusal (source_of input) status other output written one (of_play input status output told) (of_play input other written more)
-  one_within command.Play input status other output written within (misspelled takes flat is x bad) told more =
-      one_misspelling IsRunBy input flat is x bad status other output written told more
+  one_within (command.Play fences) input status other output written within (plain n) told more = absurd n
+  one_within (command.Play fences) input status other output written within (breaks_rule one) told more =
+      one_refusal (source_of input) status other output written one (of_play fences input status output told) (of_play fences input other written more)
+  one_within (command.Play fences) input status other output written within (misspelled takes flat is x bad) told more =
+      one_misspelling (IsPlayed fences) input flat is x bad status other output written told more
   one_within command.Image input status other output written within (plain n) told more = absurd n
   one_within command.Image input status other output written within (breaks_rule one) told more =
       one_refusal (source_of input) status other output written one (of_image_of input status output told) (of_image_of input other written more)

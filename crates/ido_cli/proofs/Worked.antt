@@ -41,9 +41,21 @@ first_mark_splits = refl
 
 -- ---- Words
 
-play_is_taken : command_of (codes "ido" ∷ codes "play" ∷ []) ≡ Some command.Play
+play_is_taken : command_of (codes "ido" ∷ codes "play" ∷ []) ≡ Some (command.Play false)
 unfolding command_of clap_on_literals
 play_is_taken = refl
+
+fences_are_taken : command_of (codes "ido" ∷ codes "play" ∷ codes "--fences" ∷ []) ≡ Some (command.Play true)
+unfolding command_of clap_on_literals
+fences_are_taken = refl
+
+fences_once : command_of (codes "ido" ∷ codes "play" ∷ codes "--fences" ∷ codes "--fences" ∷ []) ≡ None
+unfolding command_of clap_on_literals
+fences_once = refl
+
+fences_of_play_alone : command_of (codes "ido" ∷ codes "image" ∷ codes "--fences" ∷ []) ≡ None
+unfolding command_of clap_on_literals
+fences_of_play_alone = refl
 
 compile_is_taken : command_of (codes "ido" ∷ codes "compile" ∷ []) ≡ Some command.Compile
 unfolding command_of clap_on_literals

@@ -257,7 +257,9 @@ impl Life {
     {
         let machine = Machine::of_words(alloc, object, words)?;
         let left = Some(words.to_vec(alloc)?);
-        Life::begun(alloc, object, marks, machine, left, earlier, schedule, ended, cap)
+        Life::begun(
+            alloc, object, marks, machine, left, earlier, schedule, ended, cap,
+        )
     }
 
     /// The life of an object whose machine has made no event yet.

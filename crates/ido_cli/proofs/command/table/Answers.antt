@@ -2,7 +2,7 @@ use Rattle.std.proofs.Common.{◌≡◌, List, [], ℕ, true, ap, codes, ◌∙�
 use Rattle.std.proofs.lemmas.Result.{IfOk-weaker}
 use Rattle.clap.specs.Simple.{App, app_of_fields, new_shape}
 use Rattle.clap.specs.Words.{app_of, with_subcommand}
-use Rattle.ido_cli.specs.Commands.{live_shape, load_shape, make_shape, regions_shape, seeded_shape, turns_shape}
+use Rattle.ido_cli.specs.Commands.{live_shape, load_shape, make_shape, play_shape, regions_shape, seeded_shape, turns_shape}
 use Rattle.ido_cli.proofs.command.table.Goals as goal
 
 -- a table with a command of this name more
@@ -23,7 +23,7 @@ returns c =
     let one = c.in_ok-one.ensures ∙ ap (named (codes "compile")) empty_is in
     let two = c.in_ok-two.ensures ∙ ap (named (codes "list")) one in
     let three = c.in_ok-three.ensures ∙ ap (λ (a : App). with_subcommand a regions_shape) two in
-    let four = c.in_ok-four.ensures ∙ ap (named (codes "play")) three in
+    let four = c.in_ok-four.ensures ∙ ap (λ (a : App). with_subcommand a play_shape) three in
     let five = c.in_ok-five.ensures ∙ ap (named (codes "source")) four in
     let six = c.in_ok-six.ensures ∙ ap (named (codes "image")) five in
     let seven = c.in_ok-seven.ensures ∙ ap (named (codes "order")) six in
@@ -33,4 +33,4 @@ returns c =
     let eleven = c.in_ok-eleven.ensures ∙ ap (λ (a : App). with_subcommand a seeded_shape) ten in
     let twelve = c.in_ok-twelve.ensures ∙ ap (λ (a : App). with_subcommand a live_shape) eleven in
     let thirteen = c.in_ok-thirteen.ensures ∙ ap (λ (a : App). with_subcommand a load_shape) twelve in
-    IfOk-weaker c.with_command-7.result _ _ (λ made is. is ∙ ap (named (codes "sweep")) thirteen) c.with_command-7.ensures
+    IfOk-weaker c.with_command-6.result _ _ (λ made is. is ∙ ap (named (codes "sweep")) thirteen) c.with_command-6.ensures

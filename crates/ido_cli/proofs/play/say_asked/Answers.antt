@@ -6,24 +6,24 @@ use Rattle.ido_cli.specs.declared.play.Asked.{Asked}
 use Rattle.ido_cli.specs.Images.{IsImageAfter}
 use Rattle.ido_cli.specs.links.RunRequests.{Says}
 use Rattle.ido_cli.proofs.RunImages.{image_after, lives_few, logs_few, same_variables, steps_few, variables_few, variables_within}
-use Rattle.ido_cli.proofs.PlayedRuns.{as_many_threads, counts_sections, harts_of_life, has_room, run_by}
+use Rattle.ido_cli.proofs.PlayedRuns.{as_many_threads, counts_sections, harts_of_life, has_room, played_by}
 use Rattle.ido_cli.proofs.RefusedSchedules.{both_ok}
 use Rattle.ido_cli.proofs.play.say_asked.Goals as goal
 
-pub say-requires-clause-room : goal.say-requires-clause-room
-say-requires-clause-room c =
+pub say_played-requires-clause-room : goal.say_played-requires-clause-room
+say_played-requires-clause-room c =
     let x = c.args.compiled.now in
     let y = x.translated in
     has_room (flat_of x.flat) y.object y.marks y.cuts c.requires.translated
 
-pub say-requires-clause-harts : goal.say-requires-clause-harts
-say-requires-clause-harts c =
+pub say_played-requires-clause-harts : goal.say_played-requires-clause-harts
+say_played-requires-clause-harts c =
     let x = c.args.compiled.now in
     let y = x.translated in
     harts_of_life (flat_of x.flat) y.object y.marks y.cuts c.args.life.now _ c.requires.played
 
-pub say-requires-clause-counted : goal.say-requires-clause-counted
-say-requires-clause-counted c =
+pub say_played-requires-clause-counted : goal.say_played-requires-clause-counted
+say_played-requires-clause-counted c =
     let x = c.args.compiled.now in
     let y = x.translated in
     counts_sections (flat_of x.flat) y.object y.marks y.cuts c.args.life.now _ c.requires.played c.requires.compilation
@@ -70,10 +70,12 @@ returns-in-Report c =
     let x = c.args.compiled.now in
     let y = x.translated in
     let life = c.args.life.now in
-    IfOk-weaker c.say.result _ _
+    let fences = c.in-Report.fences in
+    IfOk-weaker c.say_played.result _ _
     (λ said is.
     subst (λ (asked : Asked). Says asked x.text.items (translation_in x) life.journal said.status said.output.items) (sym c.in-Report.is)
-    (run_by (flat_of x.flat) y.object y.marks y.cuts life _ c.requires.played c.requires.compilation said.status said.output.items is)) c.say.ensures
+    (played_by (flat_of x.flat) y.object y.marks y.cuts life _ c.requires.played c.requires.compilation fences said.status said.output.items is))
+    c.say_played.ensures
 
 pub returns-in-Image : goal.returns-in-Image
 returns-in-Image c =

@@ -27,5 +27,6 @@ pub returns-in-Err : goal.returns-in-Err
 returns-in-Err c =
     IfOk-weaker c.source_refused.result _ _
     (λ said told.
-    draw_refused c.args.seed c.args.turns c.args.crashes.now c.args.journal c.args.source.now c.in-Err.error c.in-Err.ensures said.status said.output.items told)
+    draw_refused c.args.seed c.args.turns c.args.crashes.now c.args.journal c.args.source.now c.in-Err.error c.in-Err.ensures said.status
+    said.output.items told)
     c.source_refused.ensures

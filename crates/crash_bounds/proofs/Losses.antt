@@ -1,0 +1,149 @@
+-- The steps of a thread that a crash would undo are those of its attempt, and at most the lock or unlock that ends it.
+use Rattle.std.proofs.Common.{◌≡◌, ◌≢◌, ◌⊎◌, inl, inr, refl, ℕ, suc, ◌+◌, ◌<◌, ◌≤◌, List, length, replicate, ap, sym, ◌∙◌, subst, arith, true, Option, Some, None}
+use Rattle.std.specs.Prelude.{slice_get}
+use Rattle.std.specs.Option.{option_map}
+use Rattle.std.proofs.lemmas.Bool.{cases_lt}
+use Rattle.machine_events.specs.declared.event.Event.{Event}
+use Rattle.c_tree.specs.Source.{State, runs_from}
+use Rattle.source_machine.specs.StepExchanges.{steps_of}
+use Rattle.source_machine.proofs.Public.{solo as solo_law}
+use Rattle.machine_model.specs.Schedule.{schedules}
+use Rattle.flow_graph.specs.Nodes.{Graph}
+use Rattle.flow_graph.specs.Lowering.{lowered, threads_nodes}
+use Rattle.flow_graph.specs.Actions.{GraphThread, FlowState}
+use Rattle.flow_graph.specs.Lockstep.{Matches}
+use Rattle.flow_graph.specs.Liveness.{NodeAt}
+use Rattle.flow_graph.specs.IdempotentCuts.{IsUnlock, unlocks, HasBefore, AreAtWrites, Writes}
+use Rattle.flow_graph.proofs.Public.{node_shaped, nodes_at}
+use Rattle.recovery_semantics.specs.Attempts.{solo, IsInnerStep, PassesMutex}
+use Rattle.recovery_semantics.specs.Configs.{Config, AreBegun, attempt_of}
+use Rattle.region_attempts.specs.GraphStates.{node_after, flow_solo}
+use Rattle.region_attempts.proofs.Public.{is_there, locking_at, unlocking_at, writing_stores}
+use Rattle.crash_simulation.specs.Systems.{System, IsSystem, flat_of}
+use Rattle.crash_simulation.specs.AbstractRuns.{AbstractRun, kept_of}
+use Rattle.crash_simulation.specs.AccountRelation.{MachinesResume}
+use Rattle.crash_simulation.proofs.Public.{as_source, resumed}
+use Rattle.compiler_correctness.specs.Translations.{Translation, steps}
+use Rattle.compiler_correctness.specs.Laws.{translation_of}
+use Rattle.compiler_correctness.proofs.Public.{kept_is}
+use Rattle.crash_bounds.specs.Losses.{CrashesUndoOneStretch, UndoesOneStretch, kept_state, undone}
+
+-- ---- A node before which a boundary stands, at which a thread passes a mutex
+
+module _ (y : System) (s : IsSystem y) (b : AbstractRun y) (thread : ℕ) where
+  abbrev m : Config
+  m = b.config
+
+  at_writes : AreAtWrites (lowered (flat_of y)) y.plan.boundaries
+  at_writes = subst (λ (g : Graph). AreAtWrites g y.plan.boundaries) s.plan.lowered s.plan.at_writes
+
+  record StandsAt (steps node : ℕ) : Type 0 where
+    graph_thread : GraphThread
+    found : slice_get (flow_solo (flat_of y) (kept_of y b) thread steps).graph_threads thread ≡ Some graph_thread
+    at : graph_thread.at ≡ node
+
+  stands_at : (steps node : ℕ) → node_after (flat_of y) (kept_of y b) thread steps ≡ Some node → StandsAt steps node
+  stands_at steps node is = by (slice_get (flow_solo (flat_of y) (kept_of y b) thread steps).graph_threads thread) refl is
+    where
+      by : (o : Option GraphThread) → slice_get (flow_solo (flat_of y) (kept_of y b) thread steps).graph_threads thread ≡ o →
+          option_map (λ (w : GraphThread). w.at) o ≡ Some node → StandsAt steps node
+      by None found e = absurd (let never : None ≡ Some node = e in cc)
+      by (Some graph_thread) found e =
+          let same : Some graph_thread.at ≡ Some node = e in
+          record { graph_thread = graph_thread; found = found; at = cc }
+
+  is_unlock : (steps node : ℕ) → node_after (flat_of y) (kept_of y b) thread steps ≡ Some node → HasBefore y.plan.boundaries node →
+      (mutex : ℕ) × PassesMutex (solo m.kept thread steps) thread mutex → IsUnlock (lowered (flat_of y)) node
+  is_unlock steps node is has (mutex, passes) = by (at_writes.before node has)
+    where
+      stands : StandsAt steps node
+      stands = stands_at steps node is
+
+      by_write : (w : Writes (lowered (flat_of y)) node) → PassesMutex (solo m.kept thread steps) thread mutex → IsUnlock (lowered (flat_of y)) node
+      by_write w passes = by_passing passes
+        where
+          at : NodeAt (lowered (flat_of y)) stands.graph_thread.at w.is
+          at = subst (λ (n : ℕ). NodeAt (lowered (flat_of y)) n w.is) (sym stands.at) w.at
+
+          by_passing : PassesMutex (solo m.kept thread steps) thread mutex → IsUnlock (lowered (flat_of y)) node
+          by_passing (inl locks) =
+              let there = is_there (flat_of y) s.plan.formed thread (flow_solo (flat_of y) (kept_of y b) thread steps) (solo m.kept thread steps)
+              ((as_source y s b).solo_matches thread steps) stands.graph_thread w.is stands.found at in
+              let action = locking_at (flat_of y) (solo m.kept thread steps) thread stands.graph_thread w.is there mutex locks in
+              let stores = writing_stores (threads_nodes (flat_of y) (flat_of y).threads 0) w.is w.is.action w.written
+              (node_shaped (flat_of y) node w.is (nodes_at (flat_of y) node w.is w.at)) w.writes in
+              let locked = action.2 in
+              let stored = stores.is in
+              absurd (cc)
+          by_passing (inr unlocks_it) =
+              let there = is_there (flat_of y) s.plan.formed thread (flow_solo (flat_of y) (kept_of y b) thread steps) (solo m.kept thread steps)
+              ((as_source y s b).solo_matches thread steps) stands.graph_thread w.is stands.found at in
+              let action = unlocking_at (flat_of y) (solo m.kept thread steps) thread stands.graph_thread w.is there mutex unlocks_it in
+              unlocks w.is action.0 action.1 w.at action.2
+
+      by : IsUnlock (lowered (flat_of y)) node ⊎ Writes (lowered (flat_of y)) node → IsUnlock (lowered (flat_of y)) node
+      by (inl unlock) = unlock
+      by (inr w) = by_write w passes
+
+  -- ---- The stretch
+
+  abbrev begun : ℕ
+  begun = steps_of thread m.uncommitted
+
+  runs_alone : runs_from m.kept (replicate begun thread) ≡ true
+  runs_alone =
+      let i = (resumed y s b).resumed.invariant in
+      (solo_law (flat_of y) m.kept m.uncommitted thread i.keeps i.runs i.hands).runs
+
+  done_or_last : AreBegun m thread → (k : ℕ) → k < begun →
+      (k < (attempt_of m thread).done) ⊎
+      ((k ≡ (attempt_of m thread).done) × (k + 1 ≡ begun) × ((mutex : ℕ) × PassesMutex (solo m.kept thread k) thread mutex))
+  done_or_last (inl same) k below = inl (omega (arith, same, below))
+  done_or_last (inr (more, passes)) k below = elim (cases_lt k (attempt_of m thread).done) [
+    | inl less ↦ inl less
+    | inr last ↦
+        let is : (attempt_of m thread).done ≡ k = omega (arith, more, below, last) in
+        inr (sym is, omega (arith, more, is), subst (λ (j : ℕ). (mutex : ℕ) × PassesMutex (solo m.kept thread j) thread mutex) is passes)
+  ]
+
+  inner_before : (k : ℕ) → k + 1 < begun → IsInnerStep (solo m.kept thread k) thread
+  inner_before k below =
+      let tried = (resumed y s b).resumed.invariant.tried thread in
+      let within = tried.within in
+      elim (done_or_last tried.begun k (omega (arith, below))) [
+        | inl less ↦ tried.inner k (omega (arith, less, within))
+        | inr last ↦ (let at = last.1 in absurd (omega (arith, at, below)))
+      ]
+
+  inside_before : (k node : ℕ) → 0 < k → k < begun → node_after (flat_of y) (kept_of y b) thread k ≡ Some node → HasBefore y.plan.boundaries node →
+      (k + 1 ≡ begun) × IsUnlock (lowered (flat_of y)) node
+  inside_before k node some below is has =
+      let tried = (resumed y s b).resumed.invariant.tried thread in
+      let within = tried.within in
+      elim (done_or_last tried.begun k below) [
+        | inl less ↦ absurd (((resumed y s b).inside thread).inside k node some (omega (arith, less, within)) is has)
+        | inr last ↦ (last.1, is_unlock k node is has last.2)
+      ]
+
+-- ---- In the words of the account
+
+pub crashes_undo_one_stretch : MachinesResume → CrashesUndoOneStretch
+crashes_undo_one_stretch machines y s events thread =
+    let resumes = machines y s events in
+    let b = resumes.is.stands.abstract in
+    let c : Translation = translation_of y in
+    let kept : b.config.kept ≡ kept_state c events = sym (kept_is y s _ (steps c events) resumes) in
+    let count : steps_of thread b.config.uncommitted ≡ undone c events thread = ap (steps_of thread) (sym resumes.is.counted.pending) in
+    record {
+      flow = kept_of y b;
+      matches = subst (λ (z : State). Matches c.flat (kept_of y b) z) kept (as_source y s b).kept_matches;
+      runs =
+          subst (λ (n : ℕ). runs_from (kept_state c events) (replicate n thread) ≡ true) count
+          (subst (λ (z : State). runs_from z (replicate (steps_of thread b.config.uncommitted) thread) ≡ true) kept (runs_alone y s b thread));
+      inner = λ k below.
+          subst (λ (z : State). IsInnerStep (solo z thread k) thread) kept (inner_before y s b thread k (omega (arith, count, below)));
+      inside = λ k node some below is has.
+          let found = inside_before y s b thread k node some (omega (arith, count, below)) is has in
+          let last = found.0 in
+          (omega (arith, last, count), found.1);
+    }
