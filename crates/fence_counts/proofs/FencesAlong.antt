@@ -73,7 +73,7 @@ last_near finished stored crashes rest within near =
 module _ (fragments_step : FragmentsStep) (cores_step : CoresStep) (law : FragmentsGoOn) (y : System) (s : IsSystem y) (h : ℕ) (below : h < thread_count y)
   where
     abbrev at : World → LifeConfig
-    at w = record { runs = y.runs; kept_before = only_life []; world = w }
+    at w = record { runs = y.runs; kept_before = only_life []; ended_before = []; world = w }
 
     abbrev finished_in : World → List Event → ℕ
     finished_in w events = finished_fences living (at w) events h

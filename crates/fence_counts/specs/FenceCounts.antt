@@ -23,7 +23,7 @@ crashes_in (Start ∷ events) = crashes_in events
 
 -- what a life of the translation is before any event
 abbrev pub opening : Translation → LifeConfig
-opening c = record { runs = c.runs; kept_before = only_life []; world = first_world c.runs }
+opening c = record { runs = c.runs; kept_before = only_life []; ended_before = []; world = first_world c.runs }
 
 -- the fences that the hart has finished by the events: before crashes, in recoveries, and in sections that were lost
 abbrev pub fences_finished : Translation → List Event → (h : ℕ) → ℕ

@@ -9,10 +9,9 @@ use Rattle.c_tree.specs.Flats.{flat_of}
 use Rattle.c_tree.specs.Source.{start}
 use Rattle.source_machine.specs.Lives.{ended_lives}
 use Rattle.machine_model.specs.Executables.{Executable, first_world}
-use Rattle.machine_model.specs.Machine.{World, after_event, after_events}
-use Rattle.machine_model.specs.Schedule.{LifeSchedules, Steps, all_lives, first_steps, kept_lives, only_life, schedules, steps_after}
+use Rattle.machine_model.specs.Machine.{World, after_event}
+use Rattle.machine_model.specs.Schedule.{Steps, all_lives, first_steps, only_life, schedules, steps_after}
 use Rattle.crash_simulation.proofs.Public.{steps_join}
-use Rattle.compiler_correctness.specs.Compilations.{IsCompilation}
 use Rattle.compiler_correctness.specs.Images.{Image, first_from, image_in, image_of, steps_from}
 use Rattle.compiler_correctness.specs.Laws.{ImagesAreCrashes}
 use Rattle.compiler_correctness.specs.Translations.{Translation, steps, world}
@@ -20,7 +19,7 @@ use Rattle.ido_compile.specs.declared.compiler.Compiled.{Compiled}
 use Rattle.ido_compile.specs.CompileAnswers.{IsCompiledAs, translation_in}
 use Rattle.ido_compile.specs.Files.{FilesBegin}
 use Rattle.image_checks.specs.RunImages.{left_by}
-use Rattle.run_tracker.specs.ObjectLives.{Course, LifeConfig, ended_sections, ends_at_point, life_from, living, opening_of, steps_in}
+use Rattle.run_tracker.specs.ObjectLives.{Course, LifeConfig, ends_at_point, life_from, living, opening_of, steps_in}
 use Rattle.run_tracker.proofs.Public.{played_is}
 use Rattle.ido_cli.specs.CompiledLives.{CountsEnded, LivesCountSections, LivesOfFilesAreCompiled, LivesOfFilesCountSections}
 use Rattle.ido_cli.specs.Plays.{beginning}

@@ -1,5 +1,5 @@
 -- A text whose tokens are whole has the same ones with an LF at its end, and so it is accepted with one.
-use Rattle.std.proofs.Common.{◌≡◌, ℕ, zero, suc, ◌+◌, ◌-◌, ◌<◌, ◌≤◌, List, [], ◌∷◌, ◌++◌, length, take, drop, Bool, true, false, Option, Some, None}
+use Rattle.std.proofs.Common.{◌≡◌, ℕ, zero, suc, ◌+◌, ◌<◌, ◌≤◌, List, [], ◌∷◌, ◌++◌, length, take, drop, Bool, true, false, Option, Some, None}
 use Rattle.std.proofs.Common.{refl, sym, ap, ap₂, subst, ◌∙◌, arith, codes, length-append}
 use Rattle.std.specs.Prelude.{◌&&◌, ◌||◌, ◌==◌, not, nat_eq, find, take_while, if◌then◌else◌}
 use Rattle.std.specs.Cmp.Lexicographic.{pointwise}
@@ -14,9 +14,9 @@ use Rattle.c_tree.specs.declared.rule.Rule as r
 use Rattle.c_tree.specs.declared.rule.Rule.TheVariants as rule
 use Rattle.c_tree.specs.declared.token.Punctuator as pn
 use Rattle.c_tree.specs.LexicalScan.{Prefix, Blank, Lexed, Broken, End, Scanned, closed_comment, is_blank, is_decimal, is_letter, is_word_byte, line_comment}
-use Rattle.c_tree.specs.LexicalScan.{in_language, number_of, number_prefix, plain_scanned, prefix, prefix_from, punctuator_prefix, punctuators, scanned, scanned_from}
+use Rattle.c_tree.specs.LexicalScan.{in_language, number_of, number_prefix, plain_scanned, prefix, punctuator_prefix, punctuators, scanned, scanned_from}
 use Rattle.c_tree.specs.LexicalScan.{through_comment, with_token, word_lexeme, word_prefix}
-use Rattle.c_tree.specs.Tokens.{Lexeme, Number, Punctuator, Token}
+use Rattle.c_tree.specs.Tokens.{Lexeme, Number, Punctuator}
 use Rattle.c_tree.specs.Trees.{Item}
 use Rattle.c_tree.specs.TextReadings.{IsRead}
 use Rattle.c_tree.specs.TextReadings as readings

@@ -1,6 +1,6 @@
 -- What is said of runs on threads.
 use Rattle.std.proofs.Common.{◌≡◌, refl, ℕ, ◌+◌, ◌<◌, ◌≤◌, ◌^◌, List, [], ◌∷◌, ◌++◌, length, sym, ap}
-use Rattle.std.proofs.Common.{◌∙◌, subst, arith, length-append, Option, Some, None, Bool, true, false}
+use Rattle.std.proofs.Common.{◌∙◌, subst, arith, length-append, Option, Some, None, Bool, true}
 use Rattle.std.specs.Prelude.{◌-◌, Err, IfSome, codes, decimal, flat_map, nat_le}
 use Rattle.std.proofs.lemmas.Bool.{leb-true}
 use Rattle.std.proofs.lemmas.Fmt.{length-decimal-le}

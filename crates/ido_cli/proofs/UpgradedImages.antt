@@ -33,7 +33,6 @@ use Rattle.ido_compile.specs.LoggedTexts.{IsRefusedAs}
 use Rattle.ido_compile.specs.Verdicts.{NotBoth}
 use Rattle.log_schemes.specs.declared.log.Log.TheVariants.{V2}
 use Rattle.image_checks.specs.declared.error.ImageError.{ImageError}
-use Rattle.image_checks.specs.declared.error.ImageError.TheVariants as e
 use Rattle.run_scripts.specs.Runs.{schedule_of}
 use Rattle.run_tracker.specs.ObjectLives.{Course, left_words, steps_in, variable_words_in, world_of}
 use Rattle.ido_cli.specs.declared.compiled_image.Begun.{Begun}

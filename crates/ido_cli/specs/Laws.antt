@@ -1,5 +1,5 @@
 -- What words and an input are answered is at most one thing; an image that `image` wrote is recovered from, and a journal is played.
-use Rattle.std.specs.Prelude.{◌≡◌, ◌≤◌, ℕ, List, ◌∷◌, ◌++◌, All, length, true, Option, Some, None, codes, if◌then◌else◌}
+use Rattle.std.specs.Prelude.{◌≡◌, ◌≤◌, ℕ, List, ◌∷◌, ◌++◌, All, length, true, false, Option, Some, None, codes, if◌then◌else◌}
 use Rattle.machine_events.specs.declared.event.Event.{Event}
 use Rattle.machine_events.specs.declared.event.Event.TheVariants.{Crash}
 use Rattle.machine_events.specs.Cores.{IsValidNow}

@@ -88,12 +88,7 @@ fn with_fences(alloc: Global, life: &Life, said: Said) -> Result<Said, OutOfMemo
 }
 
 /// What is said of a life that has counted its sections, with the fences of each hart, where they are asked for and each hart is settled.
-fn say_played(
-    alloc: Global,
-    fences: bool,
-    flat: &Flat,
-    life: &Life,
-) -> Result<Said, OutOfMemory>
+fn say_played(alloc: Global, fences: bool, flat: &Flat, life: &Life) -> Result<Said, OutOfMemory>
     requires room { HaveRoom (map shape_of (flat_of flat.now).variables) }
     requires harts { length (world_of life.now).harts ≡ length life.now.runs.program }
     requires counted { CountsSections (flat_of flat.now) life.now }

@@ -28,8 +28,6 @@ mod regions;
 #[cfg(test)]
 mod registers;
 #[cfg(test)]
-mod rounds;
-#[cfg(test)]
 mod steps;
 #[cfg(test)]
 mod straight;

@@ -8,7 +8,7 @@ use Rattle.ido_cli.proofs.command.with_flag.Goals as goal
 
 pub returns : goal.returns
 returns c =
-    let word = c.flag in
+    let word = c.flag-flag in
     let command = c.in_ok-arg.field-0 in
     let no_globals : (out-Command command).has_globals ≡ false =
     c.in_ok-arg.ensures.globals ∙ ap₂ (λ (a b : Bool). a || b) c.new.ensures.local word.ensures.local in

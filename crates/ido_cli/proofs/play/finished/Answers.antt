@@ -1,4 +1,4 @@
-use Rattle.std.proofs.Common.{arith, length, map}
+use Rattle.std.proofs.Common.{arith, length}
 use Rattle.machine_events.specs.Cores.{finished_fences}
 use Rattle.run_tracker.specs.ObjectLives.{living, opening_of}
 use Rattle.ido_cli.specs.links.FencedReports.{fences_in}
