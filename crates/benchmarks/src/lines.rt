@@ -56,7 +56,7 @@ impl Lines {
 }
 
 impl Core for Lines {
-    ghost use Rattle.std.specs.Prelude.{ℕ};
+    ghost use Rattle.std.specs.Prelude.{ℕ, false};
 
     ghost Meaning = { ℕ };
 
@@ -75,6 +75,10 @@ impl Core for Lines {
     ghost is_local = { λ _ _ _. Unit {0} };
 
     ghost ahead_by = { λ _. 0 };
+
+    ghost goes_ahead = { λ _. false };
+
+    ghost is_at_beginning = { λ _ _ _. Unit {0} };
 
     fn harts(&self) -> u32 {
         4
@@ -130,6 +134,6 @@ impl Core for Lines {
     }
 
     fn adopt(&mut self, _: u32, _: &NothingAhead) -> bool {
-        false
+        true
     }
 }

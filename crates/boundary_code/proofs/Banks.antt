@@ -1,5 +1,5 @@
 -- The first part of a boundary, up to its first fence: the bank is stored, and its lines in use are cleaned.
-use Rattle.std.proofs.Common.{◌≡◌, ◌≢◌, ℕ, ◌+◌, ◌-◌, ◌*◌, ◌/◌, ◌^◌, ◌<◌, ◌≤◌, List, [], ◌∷◌, ◌++◌, length, map}
+use Rattle.std.proofs.Common.{◌≡◌, ◌≢◌, ℕ, zero, suc, ◌+◌, ◌-◌, ◌*◌, ◌/◌, ◌^◌, ◌<◌, ◌≤◌, List, [], ◌∷◌, ◌++◌, length, map}
 use Rattle.std.proofs.Common.{refl, ap, sym, ◌∙◌, arith, Bool, true, false, ◌==◌, lit<, if◌then◌else◌}
 use Rattle.std.specs.Prelude.{slice_set, filter}
 use Rattle.std.specs.List.{list_all, list_any}
@@ -8,7 +8,6 @@ use Rattle.std.proofs.lemmas.Bool.Decides.{nat_tests}
 use Rattle.ido_base.specs.declared.limits.TheConstants.{MOST_THREADS}
 use Rattle.log_schemes.specs.Layout.{log_of, bank_bytes, slot_at}
 use Rattle.log_schemes.specs.declared.log.Log.{Log}
-use Rattle.log_schemes.specs.declared.log.Log.TheVariants.{V1, V2}
 use Rattle.rv64_isa.specs.declared.instr.Instr.{Instr}
 use Rattle.rv64_isa.specs.declared.instr.Instr.TheVariants.{Store, OpImmediate, Op, CboClean}
 use Rattle.rv64_isa.specs.declared.instr.Operation.TheVariants.{Add, Xor}
@@ -18,7 +17,10 @@ use Rattle.rv64_isa.specs.Rows.{Effect, Continues, Stores, Cleans, row, read, ne
 use Rattle.rv64_isa.specs.Arithmetic.{sign_extended, result_of}
 use Rattle.memory_layout.specs.Roles.{is_temporary, is_kept}
 use Rattle.operator_code.specs.StraightLineCode.{IsConstant, registers_after}
-use Rattle.boundary_code.specs.Boundaries.{lines_in_use, bank_lines, listed_from, IsOnSide, IsUnderWay, GiveNumbers, keep_locks}
+use Rattle.boundary_code.specs.Boundaries.{lines_in_use, IsOnSide, IsUnderWay}
+use Rattle.log_schemes.specs.declared.keeping.Keeping.TheVariants.{Listed}
+use Rattle.log_schemes.specs.Schemes.{bank_lines, bank_slots, keeping_of, lines_in_bank, lock_slot, numbers_from, register_slot, size_of}
+use Rattle.log_schemes.proofs.Public.{scheme, size_holds}
 use Rattle.boundary_code.specs.links.InstructionLists.{KeptCode, keep_slots, clean_lines, bank_part, opening_list}
 use Rattle.operator_code.proofs.Public.{RunsFrom, stop, go, store, clean, along, constant_runs, read_same, read_other, length-changed, small_immediate}
 use Rattle.operator_code.proofs.Public.{add_small, displaced_small}
@@ -26,16 +28,31 @@ use Rattle.boundary_code.proofs.Registers.{ready, ready_still, flip, bank_immedi
 
 -- ---- Slots
 
-abbrev AreKept : List ℕ → Type 0
-AreKept [] = Unit {0}
-AreKept (r ∷ rs) = ((r < 32) × (is_temporary r ≡ false) × (r ≢ 3)) × AreKept rs
+abbrev AreKept : Log → List ℕ → Type 0
+AreKept log [] = Unit {0}
+AreKept log (r ∷ rs) = ((register_slot log r < 48) × (is_temporary r ≡ false) × (r ≢ 3)) × AreKept log rs
 
-kept_register : (r : ℕ) → is_kept r ≡ true → (r < 32) × (is_temporary r ≡ false) × (r ≢ 3)
-kept_register r h = (grind (arith, nat_tests), grind (arith, nat_tests), λ e. let z : is_kept 3 ≡ true = ap (λ (n : ℕ). is_kept n) (sym e) ∙ h in cc z)
+-- a bank has 48 slots at most
+few_slots : (log : Log) (slot : ℕ) → slot < bank_slots log → slot < 48
+few_slots log slot below = let few = (size_holds (size_of log)).few_in_bank in omega (arith, below, few)
 
-pub kept_registers : (live : List ℕ) → list_all is_kept live ≡ true → AreKept live
-kept_registers [] h = tt
-kept_registers (r ∷ rs) h = let parts = and_parts (is_kept r) (list_all is_kept rs) h in (kept_register r parts.0, kept_registers rs parts.1)
+kept_register : (log : Log) (r : ℕ) → is_kept r ≡ true → (register_slot log r < 48) × (is_temporary r ≡ false) × (r ≢ 3)
+kept_register log r h =
+    let apart = (scheme log).apart in
+    let own = apart.register r (apart.kept r h) in (
+      few_slots log (register_slot log r) own.exists,
+      grind (arith, nat_tests),
+      λ e. let z : is_kept 3 ≡ true = ap (λ (n : ℕ). is_kept n) (sym e) ∙ h in cc z,
+    )
+
+pub kept_registers : (log : Log) (live : List ℕ) → list_all is_kept live ≡ true → AreKept log live
+kept_registers log [] h = tt
+kept_registers log (r ∷ rs) h =
+    let parts = and_parts (is_kept r) (list_all is_kept rs) h in (kept_register log r parts.0, kept_registers log rs parts.1)
+
+-- the slots of listed locks
+pub lock_slots_few : (log : Log) (index : ℕ) → keeping_of log ≡ Listed → index < 16 → lock_slot log index < 48
+lock_slots_few log index is below = few_slots log (lock_slot log index) ((scheme log).apart.lock index is below).exists
 
 slot_address : (log : Log) (thread bank slot : ℕ) → thread < MOST_THREADS → bank < 2 → slot < 48 →
     displaced (log_of log thread + bank_bytes log * bank) 12 (64 + 8 * slot) ≡ slot_at log thread bank slot
@@ -53,17 +70,17 @@ unfolding row
 slot_row log thread bank x y r slot offset pc e h =
     ap (λ (n : ℕ). Stores (displaced n 12 offset) 8 (read y r)) h.base ∙ ap (λ (n : ℕ). Stores n 8 (read y r)) e
 
-pub slots_run : (log : Log) (thread bank : ℕ) (x y : List ℕ) (live : List ℕ) (pc : ℕ) → thread < MOST_THREADS → bank < 2 → AreKept live →
+pub slots_run : (log : Log) (thread bank : ℕ) (x y : List ℕ) (live : List ℕ) (pc : ℕ) → thread < MOST_THREADS → bank < 2 → AreKept log live →
     IsUnderWay log thread bank x y →
-    RunsFrom (keep_slots live) y pc (map (λ r. Stores (slot_at log thread bank r) 8 (read x r)) live) y
+    RunsFrom (keep_slots log live) y pc (map (λ r. Stores (slot_at log thread bank (register_slot log r)) 8 (read x r)) live) y
 slots_run log thread bank x y [] pc t b kept h = stop y pc
 slots_run log thread bank x y (r ∷ rs) pc t b kept h =
-    let below : r < 48 = omega (arith, kept.0.0) in
-    let here = slot_row log thread bank x y r r (64 + 8 * r) pc (slot_address log thread bank r t b below) h in
+    let slot : ℕ = register_slot log r in
+    let here = slot_row log thread bank x y r slot (64 + 8 * slot) pc (slot_address log thread bank slot t b kept.0.0) h in
     let value : read y r ≡ read x r = h.others r kept.0.1 kept.0.2 in
-    store (Store Sd r 30 (64 + 8 * r)) (keep_slots rs) y pc (slot_at log thread bank r) 8 (read x r)
-    (map (λ s. Stores (slot_at log thread bank s) 8 (read x s)) rs) y
-    (here ∙ ap (λ (n : ℕ). Stores (slot_at log thread bank r) 8 n) value) (slots_run log thread bank x y rs (pc + 4) t b kept.1 h)
+    store (Store Sd r 30 (64 + 8 * slot)) (keep_slots log rs) y pc (slot_at log thread bank slot) 8 (read x r)
+    (map (λ s. Stores (slot_at log thread bank (register_slot log s)) 8 (read x s)) rs) y
+    (here ∙ ap (λ (n : ℕ). Stores (slot_at log thread bank slot) 8 n) value) (slots_run log thread bank x y rs (pc + 4) t b kept.1 h)
 
 -- ---- Lines
 
@@ -79,9 +96,12 @@ lines-filter p (line ∷ lines) h = by (p line) (lines-filter p lines h.1)
     by true rest = (h.0, rest)
     by false rest = rest
 
+lines_below : (at count : ℕ) → at + count ≤ 6 → AreLines (numbers_from at count)
+lines_below at zero few = tt
+lines_below at (suc count) few = (omega (arith, few), lines_below (at + 1) count (omega (arith, few)))
+
 all_lines : (log : Log) → AreLines (bank_lines log)
-all_lines V1 = (lit< tt, (lit< tt, (lit< tt, (lit< tt, tt))))
-all_lines V2 = (lit< tt, (lit< tt, (lit< tt, (lit< tt, (lit< tt, (lit< tt, tt))))))
+all_lines log = lines_below 0 (lines_in_bank (size_of log)) (let few = (size_holds (size_of log)).few_in_bank in omega (arith, few))
 
 pub are_lines : (log : Log) (slots : List ℕ) → AreLines (lines_in_use log slots)
 are_lines log slots = lines-filter (λ line. list_any (λ slot. slot / 8 == line) slots) (bank_lines log) (all_lines log)
@@ -141,49 +161,11 @@ number_stored log thread bank slot x y number pc t b s under is =
     ∙ ap (λ (n : ℕ). Stores (slot_at log thread bank slot) 8 n) is)
     (stop y (pc + 4))
 
--- ---- Locks in slots of their own
+-- ---- Slots with values
 
 -- the stores of these slots
 abbrev pub stores_of : (log : Log) (thread bank : ℕ) → List (ℕ × ℕ) → List Effect
 stores_of log thread bank kept = map (λ (one : ℕ × ℕ). Stores (slot_at log thread bank one.0) 8 one.1) kept
-
-pub locks_run : (log : Log) (thread bank : ℕ) (x : List ℕ) (slot : ℕ) (numbers : List ℕ) (codes : List (List Instr)) → thread < MOST_THREADS → bank < 2 →
-    slot + length numbers ≤ 48 → GiveNumbers numbers codes → (y : List ℕ) (pc : ℕ) → IsUnderWay log thread bank x y →
-    Written log thread bank x y (keep_locks slot codes) pc (stores_of log thread bank (listed_from slot numbers))
-locks_run log thread bank x slot [] [] t b few gives y pc h = record { left = y; runs = stop y pc; ready = h }
-locks_run log thread bank x slot [] (code ∷ codes) t b few gives y pc h = absurd gives
-locks_run log thread bank x slot (number ∷ numbers) [] t b few gives y pc h = absurd gives
-locks_run log thread bank x slot (number ∷ numbers) (code ∷ codes) t b few gives y pc h =
-    let one = gives.0 in
-    let z : List ℕ = registers_after code y pc in
-    let pc2 : ℕ = pc + 4 * length code in
-    let other : (r : ℕ) → r ≢ 5 → r ≢ 6 → r ≢ 7 → r ≢ 30 → read z r ≡ read y r = λ r. one.others y pc r h.count h.zero_is in
-    let summed : read y 30 ≡ read y 31 + read y 3 = omega (arith, h.base, h.logged, h.offset) in
-    let still : IsUnderWay log thread bank x z = record {
-      count = one.count y pc h.count h.zero_is;
-      zero_is = other 0 (eqb-false 0 5 refl) (eqb-false 0 6 refl) (eqb-false 0 7 refl) (eqb-false 0 30 refl) ∙ h.zero_is;
-      offset = other 3 (eqb-false 3 5 refl) (eqb-false 3 6 refl) (eqb-false 3 7 refl) (eqb-false 3 30 refl) ∙ h.offset;
-      logged = other 31 (eqb-false 31 5 refl) (eqb-false 31 6 refl) (eqb-false 31 7 refl) (eqb-false 31 30 refl) ∙ h.logged;
-      base = one.base y pc h.count h.zero_is summed ∙ h.base;
-      others = λ r s n.
-          other r (not_temporary r 5 refl s) (not_temporary r 6 refl s) (not_temporary r 7 refl s) (not_temporary r 30 refl s) ∙ h.others r s n;
-    } in
-    let below : slot < 48 = omega (arith, few) in
-    let more = locks_run log thread bank x (slot + 1) numbers codes t b (omega (arith, few)) gives.1 z (pc2 + 4) still in
-    let rest : List Effect = stores_of log thread bank (listed_from (slot + 1) numbers) in
-    let store_row : row (Store Sd 5 30 (64 + 8 * slot)) z pc2 ≡ Stores (slot_at log thread bank slot) 8 number =
-    slot_row log thread bank x z 5 slot (64 + 8 * slot) pc2 (slot_address log thread bank slot t b below) still ∙
-    ap (λ (n : ℕ). Stores (slot_at log thread bank slot) 8 n) (one.number_is y pc h.count h.zero_is) in
-    let first : RunsFrom code y pc [] z = record { sees = one.unseen y pc h.count h.zero_is; leaves = refl } in
-    let second : RunsFrom (Store Sd 5 30 (64 + 8 * slot) ∷ keep_locks (slot + 1) codes) z pc2
-    (Stores (slot_at log thread bank slot) 8 number ∷ rest) more.left =
-    store (Store Sd 5 30 (64 + 8 * slot)) (keep_locks (slot + 1) codes) z pc2 (slot_at log thread bank slot) 8 number rest more.left store_row more.runs in
-    record {
-      left = more.left;
-      runs = along code (Store Sd 5 30 (64 + 8 * slot) ∷ keep_locks (slot + 1) codes) y z more.left pc []
-          (Stores (slot_at log thread bank slot) 8 number ∷ rest) first second;
-      ready = more.ready;
-    }
 
 -- ---- The part
 
@@ -247,10 +229,10 @@ opened log thread value bank address code x pc t at is_log is_first =
     }
 
 pub banked : (log : Log) (thread value bank : ℕ) (address : List Instr) (kept : KeptCode) (rest : List (ℕ × ℕ)) (live : List ℕ) (x : List ℕ) (pc : ℕ) →
-    thread < MOST_THREADS → AreKept live → IsOnSide log bank x → IsConstant 31 (log_of log thread) address → IsConstant 7 value kept.first →
+    thread < MOST_THREADS → AreKept log live → IsOnSide log bank x → IsConstant 31 (log_of log thread) address → IsConstant 7 value kept.first →
     ((y : List ℕ) (at : ℕ) → IsUnderWay log thread (1 - bank) x y → Written log thread (1 - bank) x y kept.others at (stores_of log thread (1 - bank) rest)) →
     Written log thread (1 - bank) x x (bank_part log address kept live) pc
-    ((stores_of log thread (1 - bank) ((0, value) ∷ rest) ++ map (λ r. Stores (slot_at log thread (1 - bank) r) 8 (read x r)) live) ++
+    ((stores_of log thread (1 - bank) ((0, value) ∷ rest) ++ map (λ r. Stores (slot_at log thread (1 - bank) (register_slot log r)) 8 (read x r)) live) ++
     map (λ line. Cleans (slot_at log thread (1 - bank) (8 * line))) (lines_in_use log kept.slots))
 banked log thread value bank address kept rest live x pc t keeps at is_log is_first others =
     let other : ℕ = 1 - bank in
@@ -286,17 +268,17 @@ banked log thread value bank address kept rest live x pc t keeps at is_log is_fi
     store (Store Sd 7 30 64) kept.others x4 pc3 (slot_at log thread other 0) 8 value (stores_of log thread other rest) listed.left
     (first_row log thread other x x4 value pc3 t below start (read_same x3 7 value l3 (lit< tt))) listed.runs in
     let b : RunsFrom (flips ++ begins ++ stores) x pc locks listed.left = along (flips ++ begins) stores x x4 listed.left pc [] locks a third in
-    let slots : List Effect = map (λ r. Stores (slot_at log thread other r) 8 (read x r)) live in
+    let slots : List Effect = map (λ r. Stores (slot_at log thread other (register_slot log r)) 8 (read x r)) live in
     let pc4 : ℕ = pc + 4 * length (flips ++ begins ++ stores) in
-    let fourth : RunsFrom (keep_slots live) listed.left pc4 slots listed.left =
+    let fourth : RunsFrom (keep_slots log live) listed.left pc4 slots listed.left =
     slots_run log thread other x listed.left live pc4 t below keeps listed.ready in
-    let c : RunsFrom (flips ++ begins ++ stores ++ keep_slots live) x pc (locks ++ slots) listed.left =
-    along (flips ++ begins ++ stores) (keep_slots live) x listed.left listed.left pc locks slots b fourth in
-    let done = cleans_run log thread other x listed.left (lines_in_use log kept.slots) (pc + 4 * length (flips ++ begins ++ stores ++ keep_slots live)) t below
+    let c : RunsFrom (flips ++ begins ++ stores ++ keep_slots log live) x pc (locks ++ slots) listed.left =
+    along (flips ++ begins ++ stores) (keep_slots log live) x listed.left listed.left pc locks slots b fourth in
+    let done = cleans_run log thread other x listed.left (lines_in_use log kept.slots) (pc + 4 * length (flips ++ begins ++ stores ++ keep_slots log live)) t below
     (are_lines log kept.slots) listed.ready in
     record {
       left = done.left;
-      runs = along (flips ++ begins ++ stores ++ keep_slots live) (clean_lines (lines_in_use log kept.slots)) x listed.left done.left pc
+      runs = along (flips ++ begins ++ stores ++ keep_slots log live) (clean_lines (lines_in_use log kept.slots)) x listed.left done.left pc
           (locks ++ slots) (map (λ line. Cleans (slot_at log thread other (8 * line))) (lines_in_use log kept.slots)) c done.runs;
       ready = done.ready;
     }

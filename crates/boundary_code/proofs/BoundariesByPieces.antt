@@ -1,33 +1,27 @@
--- Boundaries by their pieces: where a bank keeps a mask, and where it lists the locks.
+-- Straight boundaries by their pieces: where a bank keeps a mask, and a section's last one.
 use Rattle.std.proofs.Common.{◌≡◌, ℕ, ◌+◌, ◌<◌, ◌≤◌, List, [], ◌∷◌, ◌++◌, length, map, refl, ap, sym, ◌∙◌, subst, arith, true, false}
 use Rattle.std.specs.Prelude.{ℤ, pos, negsuc, ◌≤ℤ◌}
 use Rattle.std.specs.List.{list_all}
 use Rattle.ido_base.specs.declared.limits.TheConstants.{MOST_THREADS}
 use Rattle.log_schemes.specs.declared.log.Log.{Log}
-use Rattle.log_schemes.specs.declared.log.Log.TheVariants.{V1, V2}
+use Rattle.log_schemes.specs.declared.keeping.Keeping.{Keeping}
+use Rattle.log_schemes.specs.declared.keeping.Keeping.TheVariants.{Masked}
 use Rattle.log_schemes.specs.Layout.{log_of}
+use Rattle.log_schemes.specs.Schemes.{keeping_of, kept_as, kept_locks, listed_from, lock_slot, numbers_from, register_slot}
 use Rattle.ido_base.specs.Locks.{mask_with}
 use Rattle.rv64_isa.specs.declared.instr.Instr.{Instr}
-use Rattle.machine_model.specs.Machine.{numbers_from}
 use Rattle.rv64_isa.specs.Signed.{twos_complement}
 use Rattle.memory_layout.specs.Roles.{is_kept}
 use Rattle.operator_code.specs.StraightLineCode.{IsConstant}
 use Rattle.operator_code.proofs.Public.{stop}
-use Rattle.boundary_code.specs.Boundaries.{Boundary, HasEffects, HasOffset, KeepsRegisters, GiveNumbers, listed_from, is_empty, keep_locks}
+use Rattle.boundary_code.specs.Boundaries.{Boundary, IsStraightCodeOf, is_empty}
 use Rattle.boundary_code.specs.links.InstructionLists.{KeptCode, boundary_list, last_list}
-use Rattle.boundary_code.proofs.Banks.{locks_run}
 use Rattle.boundary_code.proofs.WholeBoundaries.{Pieces, boundary-effects, boundary-offset, boundary-others, last-effects, last-offset, last-others}
 
--- the code is the boundary's
-pub record IsMade (b : Boundary) (code : List Instr) : Type 0 where
-  pub effects : HasEffects b code
-  pub offset : HasOffset b.log b.locks code
-  pub others : KeepsRegisters b.log code
-
 by_pieces : (b : Boundary) (address : List Instr) (kept : KeptCode) → Pieces b address kept →
-    IsMade b (boundary_list b.log address kept b.live (twos_complement 32 b.resume))
+    IsStraightCodeOf b (boundary_list b.log address kept b.live (twos_complement 32 b.resume))
 by_pieces b address kept p =
-    record { effects = boundary-effects b address kept p; offset = boundary-offset b address kept p; others = boundary-others b address kept p }
+    record { effects_are = boundary-effects b address kept p; offset = boundary-offset b address kept p; keeps = boundary-others b address kept p }
 
 -- the same list by other names of its parts
 pub renamed : (log : Log) (a a' f f' o o' : List Instr) (s s' live : List ℕ) (r r' : ℤ) → a' ≡ a → f' ≡ f → o' ≡ o → s' ≡ s → r' ≡ r →
@@ -48,76 +42,47 @@ pub record Parts (log : Log) (thread : ℕ) (live : List ℕ) (resume : ℤ) (ad
   pub high : resume ≤ℤ pos 262144
   pub is_log : IsConstant 31 (log_of log thread) address
 
-pub by_mask_made : (thread : ℕ) (locks live : List ℕ) (resume : ℤ) (address first a f : List Instr) (s : List ℕ) (r : ℤ) (code : List Instr) →
-    Parts V1 thread live resume address → is_empty locks ≡ false → IsConstant 7 (mask_with locks) first → a ≡ address → f ≡ first →
-    s ≡ (0 ∷ numbers_from 32 0) ++ live → r ≡ resume →
-    code ≡ boundary_list V1 a (record { first = f; others = []; slots = s }) live (twos_complement 32 r) →
-    IsMade (record { log = V1; thread = thread; locks = locks; live = live; resume = resume }) code
-by_mask_made thread locks live resume address first a f s r code p some constant ea ef es er e =
-    let b : Boundary = record { log = V1; thread = thread; locks = locks; live = live; resume = resume } in
-    let slots : List ℕ = (0 ∷ []) ++ live in
-    let kept : KeptCode = record { first = first; others = []; slots = slots } in
-    subst (λ (list : List Instr). IsMade b list) (sym (e ∙ renamed V1 address a first f [] [] slots s live resume r ea ef refl es er))
-    (by_pieces b address kept (record {
-      thread = p.thread_is;
-      some = some;
-      live = p.live_are;
-      low = p.low;
-      high = p.high;
-      is_log = p.is_log;
-      value = mask_with locks;
-      rest = [];
-      keeps = refl;
-      slots = refl;
-      is_first = constant;
-      others = λ bank x y at below h. record { left = y; runs = stop y at; ready = h };
-    }))
+-- where a bank keeps a mask
+module _ (log : Log) (masked : keeping_of log ≡ Masked) where
+  mask_alone : (locks : List ℕ) → kept_locks log locks ≡ (0, mask_with locks) ∷ []
+  mask_alone locks = ap (λ (k : Keeping). kept_as k log locks) masked
+
+  pub by_mask_made : (thread : ℕ) (locks live : List ℕ) (resume : ℤ) (address first a f : List Instr) (s : List ℕ) (r : ℤ) (code : List Instr) →
+      Parts log thread live resume address → is_empty locks ≡ false → IsConstant 7 (mask_with locks) first → a ≡ address → f ≡ first →
+      s ≡ (0 ∷ []) ++ map (register_slot log) live → r ≡ resume →
+      code ≡ boundary_list log a (record { first = f; others = []; slots = s }) live (twos_complement 32 r) →
+      IsStraightCodeOf (record { log = log; thread = thread; locks = locks; live = live; resume = resume }) code
+  by_mask_made thread locks live resume address first a f s r code p some constant ea ef es er e =
+      let b : Boundary = record { log = log; thread = thread; locks = locks; live = live; resume = resume } in
+      let slots : List ℕ = (0 ∷ []) ++ map (register_slot log) live in
+      let kept : KeptCode = record { first = first; others = []; slots = slots } in
+      subst (λ (list : List Instr). IsStraightCodeOf b list) (sym (e ∙ renamed log address a first f [] [] slots s live resume r ea ef refl es er))
+      (by_pieces b address kept (record {
+        thread = p.thread_is;
+        some = some;
+        live = p.live_are;
+        low = p.low;
+        high = p.high;
+        is_log = p.is_log;
+        value = mask_with locks;
+        rest = [];
+        keeps = mask_alone locks;
+        slots = ap (λ (ks : List (ℕ × ℕ)). map (λ (one : ℕ × ℕ). one.0) ks ++ map (register_slot log) live) (sym (mask_alone locks));
+        is_first = constant;
+        others = λ bank x y at below h. record { left = y; runs = stop y at; ready = h };
+      }))
 
 -- the slots of listed locks
-pub slots_listed : (slot : ℕ) (locks : List ℕ) → map (λ (one : ℕ × ℕ). one.0) (listed_from slot locks) ≡ numbers_from slot (length locks)
-slots_listed slot [] = refl
-slots_listed slot (lock ∷ locks) = ap (λ (ns : List ℕ). slot ∷ ns) (slots_listed (slot + 1) locks)
-
-pub as_many : (numbers : List ℕ) (codes : List (List Instr)) → GiveNumbers numbers codes → length numbers ≡ length codes
-as_many [] [] gives = refl
-as_many [] (code ∷ codes) gives = absurd gives
-as_many (number ∷ numbers) [] gives = absurd gives
-as_many (number ∷ numbers) (code ∷ codes) gives = let more = as_many numbers codes gives.1 in omega (arith, more)
-
-pub by_list_made : (thread : ℕ) (numbers live : List ℕ) (resume : ℤ) (codes : List (List Instr)) (address first a f o : List Instr) (s : List ℕ) (r : ℤ)
-    (code : List Instr) (count : ℕ) → Parts V2 thread live resume address → is_empty numbers ≡ false → GiveNumbers numbers codes → length codes ≤ 16 →
-    count ≡ length codes → IsConstant 7 count first → a ≡ address → f ≡ first → o ≡ keep_locks 32 codes → s ≡ (0 ∷ numbers_from 32 count) ++ live →
-    r ≡ resume →
-    code ≡ boundary_list V2 a (record { first = f; others = o; slots = s }) live (twos_complement 32 r) →
-    IsMade (record { log = V2; thread = thread; locks = numbers; live = live; resume = resume }) code
-by_list_made thread numbers live resume codes address first a f o s r code count p some gives few counted constant ea ef eo es er e =
-    let b : Boundary = record { log = V2; thread = thread; locks = numbers; live = live; resume = resume } in
-    let many = as_many numbers codes gives in
-    let count_is : count ≡ length numbers = counted ∙ sym many in
-    let slots : List ℕ = (0 ∷ numbers_from 32 count) ++ live in
-    let kept : KeptCode = record { first = first; others = keep_locks 32 codes; slots = slots } in
-    subst (λ (list : List Instr). IsMade b list)
-    (sym (e ∙ renamed V2 address a first f (keep_locks 32 codes) o slots s live resume r ea ef eo es er))
-    (by_pieces b address kept (record {
-      thread = p.thread_is;
-      some = some;
-      live = p.live_are;
-      low = p.low;
-      high = p.high;
-      is_log = p.is_log;
-      value = length numbers;
-      rest = listed_from 32 numbers;
-      keeps = refl;
-      slots = ap (λ (n : ℕ). (0 ∷ numbers_from 32 n) ++ live) count_is ∙ ap (λ (ns : List ℕ). (0 ∷ ns) ++ live) (sym (slots_listed 32 numbers));
-      is_first = subst (λ (n : ℕ). IsConstant 7 n first) count_is constant;
-      others = λ bank x y at below h. locks_run V2 thread bank x 32 numbers codes p.thread_is below (omega (arith, many, few)) gives y at h;
-    }))
+pub slots_listed : (log : Log) (index : ℕ) (locks : List ℕ) →
+    map (λ (one : ℕ × ℕ). one.0) (listed_from log index locks) ≡ map (lock_slot log) (numbers_from index (length locks))
+slots_listed log index [] = refl
+slots_listed log index (lock ∷ locks) = ap (λ (ns : List ℕ). lock_slot log index ∷ ns) (slots_listed log (index + 1) locks)
 
 pub last_made : (b : Boundary) (address a : List Instr) (code : List Instr) → b.thread < MOST_THREADS → is_empty b.locks ≡ true →
-    IsConstant 31 (log_of b.log b.thread) address → a ≡ address → code ≡ last_list a → IsMade b code
+    IsConstant 31 (log_of b.log b.thread) address → a ≡ address → code ≡ last_list a → IsStraightCodeOf b code
 last_made b address a code thread none constant ea e =
-    subst (λ (list : List Instr). IsMade b list) (sym (e ∙ ap (λ (is : List Instr). last_list is) ea)) (record {
-      effects = last-effects b address thread none constant;
+    subst (λ (list : List Instr). IsStraightCodeOf b list) (sym (e ∙ ap (λ (is : List Instr). last_list is) ea)) (record {
+      effects_are = last-effects b address thread none constant;
       offset = last-offset b.log b.locks b.thread address thread none constant;
-      others = last-others b.log b.thread address thread constant;
+      keeps = last-others b.log b.thread address thread constant;
     })

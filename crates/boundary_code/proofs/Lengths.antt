@@ -1,5 +1,5 @@
 -- Lengths of boundaries.
-use Rattle.std.proofs.Common.{◌≡◌, ℕ, ◌+◌, ◌*◌, ◌≤◌, List, [], ◌∷◌, length, filter, refl, arith, Bool, true, false}
+use Rattle.std.proofs.Common.{◌≡◌, ℕ, zero, suc, ◌+◌, ◌*◌, ◌≤◌, List, [], ◌∷◌, length, filter, refl, ap, arith, Bool, true, false}
 use Rattle.std.specs.Prelude.{if◌then◌else◌, ◌==◌, ◌/◌}
 use Rattle.std.specs.List.{list_any}
 use Rattle.std.proofs.lemmas.List.{length-append}
@@ -7,12 +7,13 @@ use Rattle.log_schemes.specs.declared.log.Log.{Log}
 use Rattle.rv64_isa.specs.declared.instr.Instr.{Instr}
 use Rattle.rv64_isa.specs.declared.instr.Instr.TheVariants.{Fence, Store}
 use Rattle.rv64_isa.specs.declared.instr.StoreKind.TheVariants.{Sd}
-use Rattle.boundary_code.specs.Boundaries.{bank_lines, lines_in_use, keep_locks, number_words}
+use Rattle.boundary_code.specs.Boundaries.{lines_in_use, keep_locks, number_words}
+use Rattle.log_schemes.specs.Schemes.{bank_lines, lines_in_bank, lock_slot, numbers_from, size_of}
 use Rattle.boundary_code.specs.links.InstructionLists.{KeptCode, keep_slots, clean_lines, commit, boundary_list, last_list}
 
-slots_length : (live : List ℕ) → length (keep_slots live) ≡ length live
-slots_length [] = refl
-slots_length (r ∷ rs) = let e : length (keep_slots rs) ≡ length rs = slots_length rs in omega (arith, e)
+slots_length : (log : Log) (live : List ℕ) → length (keep_slots log live) ≡ length live
+slots_length log [] = refl
+slots_length log (r ∷ rs) = let e : length (keep_slots log rs) ≡ length rs = slots_length log rs in omega (arith, e)
 
 cleans_length : (lines : List ℕ) → length (clean_lines lines) ≡ 2 * length lines
 cleans_length [] = refl
@@ -30,20 +31,25 @@ lines_length : (log : Log) (slots : List ℕ) → length (lines_in_use log slots
 lines_length log slots = fewer (λ line. list_any (λ slot. slot / 8 == line) slots) (bank_lines log)
 
 -- the code of the locks in slots of their own
-pub locks_length : (slot : ℕ) (codes : List (List Instr)) → length (keep_locks slot codes) ≡ number_words codes
-locks_length slot [] = refl
-locks_length slot (code ∷ codes) =
-    let more = locks_length (slot + 1) codes in
-    let e = length-append code (Store Sd 5 30 (64 + 8 * slot) ∷ keep_locks (slot + 1) codes) in
+pub locks_length : (log : Log) (index : ℕ) (codes : List (List Instr)) → length (keep_locks log index codes) ≡ number_words codes
+locks_length log index [] = refl
+locks_length log index (code ∷ codes) =
+    let more = locks_length log (index + 1) codes in
+    let e = length-append code (Store Sd 5 30 (64 + 8 * lock_slot log index) ∷ keep_locks log (index + 1) codes) in
     omega (arith, more, e)
 
+numbers_count : (at count : ℕ) → length (numbers_from at count) ≡ count
+numbers_count at zero = refl
+numbers_count at (suc count) = ap (λ (n : ℕ). suc n) (numbers_count (at + 1) count)
+
 pub boundary_short : (log : Log) (address : List Instr) (kept : KeptCode) (live : List ℕ) (resume : ℕ) → length address ≤ 8 → length kept.first ≤ 8 →
-    length (boundary_list log address kept live resume) ≤ length live + length kept.others + 27 + 2 * length (bank_lines log)
+    length (boundary_list log address kept live resume) ≤ length live + length kept.others + 27 + 2 * lines_in_bank (size_of log)
 boundary_short log address kept live resume l m =
-    let slots : length (keep_slots live) ≡ length live = slots_length live in
+    let slots : length (keep_slots log live) ≡ length live = slots_length log live in
+    let many : length (bank_lines log) ≡ lines_in_bank (size_of log) = numbers_count 0 (lines_in_bank (size_of log)) in
     let cleans : length (clean_lines (lines_in_use log kept.slots)) ≡ 2 * length (lines_in_use log kept.slots) = cleans_length (lines_in_use log kept.slots) in
     let lines = lines_length log kept.slots in
-    simp length-append (omega (arith, slots, cleans, lines, l, m))
+    simp length-append (omega (arith, slots, cleans, lines, many, l, m))
 
-pub last_short : (address : List Instr) (live : List ℕ) → length address ≤ 8 → length (last_list address) ≤ length live + 35
+pub last_short : (address : List Instr) (live : List ℕ) → length address ≤ 8 → length (last_list address) ≤ length live + 27
 last_short address live l = let e : length (last_list address) ≡ length address + 4 = length-append address (Fence ∷ commit 0) in omega (arith, e, l)

@@ -6,13 +6,14 @@ use Rattle.std.specs.List.{list_all}
 use Rattle.ido_base.specs.declared.limits.TheConstants.{MOST_THREADS}
 use Rattle.log_schemes.specs.Layout.{log_of, point_at, slot_at, bank_bytes}
 use Rattle.log_schemes.specs.declared.log.Log.{Log}
-use Rattle.log_schemes.specs.declared.log.Log.TheVariants.{V2}
+use Rattle.log_schemes.specs.declared.keeping.Keeping.{Keeping}
+use Rattle.log_schemes.specs.declared.keeping.Keeping.TheVariants.{Listed}
 use Rattle.rv64_isa.specs.declared.instr.Instr.{Instr}
 use Rattle.rv64_isa.specs.declared.instr.Instr.TheVariants.{Fence, Store, OpImmediate, Op}
 use Rattle.rv64_isa.specs.declared.instr.Operation.TheVariants.{Add}
 use Rattle.rv64_isa.specs.declared.instr.ImmediateOperation.TheVariants.{Xori}
 use Rattle.rv64_isa.specs.declared.instr.StoreKind.TheVariants.{Sd}
-use Rattle.machine_model.specs.Machine.{numbers_from}
+use Rattle.log_schemes.specs.Schemes.{keeping_of, kept_as, lock_slot, numbers_from, register_slot}
 use Rattle.rv64_isa.specs.Rows.{Effect, Stores, Cleans, Fences, read}
 use Rattle.rv64_isa.specs.Signed.{twos_complement}
 use Rattle.memory_layout.specs.Roles.{is_kept}
@@ -43,7 +44,7 @@ split_list : (log : Log) (address first others : List Instr) (slots live : List 
     ≡ opening_list log address first ++ (others ++ closing_list log slots live r)
 split_list log address first others slots live r =
     let begins : List Instr = OpImmediate Xori 3 3 (bank_bytes log) ∷ address ++ Op Add 30 31 3 ∷ first in
-    let kept : List Instr = keep_slots live in
+    let kept : List Instr = keep_slots log live in
     let cleaned : List Instr = clean_lines (lines_in_use log slots) in
     let fenced : List Instr = Fence ∷ point log r in
     ap (λ (is : List Instr). (((is ++ kept) ++ cleaned) ++ fenced) ++ commit 30) (sym (append_assoc begins (Store Sd 7 30 64 ∷ []) others))
@@ -65,7 +66,7 @@ opening_opens log thread count address first small is_log is_first = record {
 record Closed (b : Boundary) (code : List Instr) (bank : ℕ) (x y : List ℕ) (pc : ℕ) : Type 0 where
   end : List ℕ
   runs : RunsFrom code y pc (
-      map (λ r. Stores (slot_at b.log b.thread bank r) 8 (read x r)) b.live ++
+      map (λ r. Stores (slot_at b.log b.thread bank (register_slot b.log r)) 8 (read x r)) b.live ++
       map (λ line. Cleans (slot_at b.log b.thread bank (8 * line))) (lines_in_use b.log (slots_kept b.log b.locks b.live)) ++
       Fences ∷ Stores (point_at b.log b.thread) 8 ((resume_address b code pc + bank) % 2 ^ 64) ∷ Cleans (point_at b.log b.thread) ∷ Fences ∷ []) end
   left : Left b.log bank x end
@@ -76,13 +77,13 @@ closed : (b : Boundary) (slots : List ℕ) (bank : ℕ) (x y : List ℕ) (pc : �
 closed b slots bank x y pc small live low high are below under =
     let r : ℕ = twos_complement 32 b.resume in
     let t : ℕ = twos_complement 64 b.resume in
-    let kept : List Instr = keep_slots b.live in
+    let kept : List Instr = keep_slots b.log b.live in
     let cleaned : List Instr = clean_lines (lines_in_use b.log slots) in
     let prefix : List Instr = kept ++ cleaned in
     let code : List Instr = closing_list b.log slots b.live r in
-    let stores : List Effect = map (λ q. Stores (slot_at b.log b.thread bank q) 8 (read x q)) b.live in
+    let stores : List Effect = map (λ q. Stores (slot_at b.log b.thread bank (register_slot b.log q)) 8 (read x q)) b.live in
     let cleans : List ℕ → List Effect = λ ss. map (λ line. Cleans (slot_at b.log b.thread bank (8 * line))) (lines_in_use b.log ss) in
-    let first : RunsFrom kept y pc stores y = slots_run b.log b.thread bank x y b.live pc small below (kept_registers b.live live) under in
+    let first : RunsFrom kept y pc stores y = slots_run b.log b.thread bank x y b.live pc small below (kept_registers b.log b.live live) under in
     let second = cleans_run b.log b.thread bank x y (lines_in_use b.log slots) (pc + 4 * length kept) small below (are_lines b.log slots) under in
     let both : RunsFrom prefix y pc (stores ++ cleans slots) second.left =
     along kept cleaned y y second.left pc stores (cleans slots) first second.runs in
@@ -119,20 +120,27 @@ closing_closes b slots small live low high are = record {
 
 -- ---- Both
 
-pub list_parts : (thread : ℕ) (live : List ℕ) (resume : ℤ) (codes : List (List Instr)) (address first a f o : List Instr) (s : List ℕ) (r : ℤ)
-    (code : List Instr) (count : ℕ) → Parts V2 thread live resume address → count ≡ length codes → IsConstant 7 count first → a ≡ address → f ≡ first →
-    o ≡ keep_locks 32 codes → s ≡ (0 ∷ numbers_from 32 count) ++ live → r ≡ resume →
-    code ≡ boundary_list V2 a (record { first = f; others = o; slots = s }) live (twos_complement 32 r) → IsListCode thread live resume codes code
-list_parts thread live resume codes address first a f o s r code count p counted constant ea ef eo es er e =
-    let slots : List ℕ = (0 ∷ numbers_from 32 count) ++ live in
-    record {
-      opening = opening_list V2 address first;
-      closing = closing_list V2 slots live (twos_complement 32 resume);
-      split = e ∙ (renamed V2 address a first f (keep_locks 32 codes) o slots s live resume r ea ef eo es er
-          ∙ split_list V2 address first (keep_locks 32 codes) slots live (twos_complement 32 resume));
-      opens = opening_opens V2 thread (length codes) address first p.thread_is p.is_log (subst (λ (n : ℕ). IsConstant 7 n first) counted constant);
-      closes = λ numbers many.
-          let count_is : count ≡ length numbers = counted ∙ sym many in
-          closing_closes (record { log = V2; thread = thread; locks = numbers; live = live; resume = resume }) slots p.thread_is p.live_are p.low p.high
-          (ap (λ (n : ℕ). (0 ∷ numbers_from 32 n) ++ live) count_is ∙ ap (λ (ns : List ℕ). (0 ∷ ns) ++ live) (sym (slots_listed 32 numbers)));
-    }
+module _ (log : Log) (listed : keeping_of log ≡ Listed) where
+  list_slots : (numbers live : List ℕ) →
+      (0 ∷ map (lock_slot log) (numbers_from 0 (length numbers))) ++ map (register_slot log) live ≡ slots_kept log numbers live
+  list_slots numbers live =
+      ap (λ (ns : List ℕ). (0 ∷ ns) ++ map (register_slot log) live) (sym (slots_listed log 0 numbers))
+      ∙ ap (λ (k : Keeping). map (λ (kept : ℕ × ℕ). kept.0) (kept_as k log numbers) ++ map (register_slot log) live) (sym listed)
+
+  pub list_parts : (thread : ℕ) (live : List ℕ) (resume : ℤ) (codes : List (List Instr)) (address first a f o : List Instr) (s : List ℕ) (r : ℤ)
+      (code : List Instr) (count : ℕ) → Parts log thread live resume address → count ≡ length codes → IsConstant 7 count first → a ≡ address → f ≡ first →
+      o ≡ keep_locks log 0 codes → s ≡ (0 ∷ map (lock_slot log) (numbers_from 0 count)) ++ map (register_slot log) live → r ≡ resume →
+      code ≡ boundary_list log a (record { first = f; others = o; slots = s }) live (twos_complement 32 r) → IsListCode log thread live resume codes code
+  list_parts thread live resume codes address first a f o s r code count p counted constant ea ef eo es er e =
+      let slots : List ℕ = (0 ∷ map (lock_slot log) (numbers_from 0 count)) ++ map (register_slot log) live in
+      record {
+        opening = opening_list log address first;
+        closing = closing_list log slots live (twos_complement 32 resume);
+        split = e ∙ (renamed log address a first f (keep_locks log 0 codes) o slots s live resume r ea ef eo es er
+            ∙ split_list log address first (keep_locks log 0 codes) slots live (twos_complement 32 resume));
+        opens = opening_opens log thread (length codes) address first p.thread_is p.is_log (subst (λ (n : ℕ). IsConstant 7 n first) counted constant);
+        closes = λ numbers many.
+            let count_is : count ≡ length numbers = counted ∙ sym many in
+            closing_closes (record { log = log; thread = thread; locks = numbers; live = live; resume = resume }) slots p.thread_is p.live_are p.low p.high
+            (ap (λ (n : ℕ). (0 ∷ map (lock_slot log) (numbers_from 0 n)) ++ map (register_slot log) live) count_is ∙ list_slots numbers live);
+      }

@@ -17,7 +17,8 @@ use Rattle.rv64_isa.specs.Arithmetic.{sign_extended, result_of}
 use Rattle.rv64_isa.specs.Signed.{twos_complement}
 use Rattle.memory_layout.specs.Roles.{is_temporary}
 use Rattle.boundary_code.specs.Boundaries.{IsUnderWay}
-use Rattle.boundary_code.specs.links.InstructionLists.{offset_bits, point, commit}
+use Rattle.boundary_code.specs.links.InstructionLists.{point, commit}
+use Rattle.log_schemes.specs.Schemes.{distance_bits, size_of}
 use Rattle.operator_code.proofs.Public.{RunsFrom, stop, go, store, clean, fence, read_same, read_other, length-changed, displaced_small, signed12, signed32}
 use Rattle.boundary_code.proofs.Registers.{bank_bit, log_small, not_temporary}
 
@@ -82,9 +83,9 @@ unfolding row
 low_row z l v pc e = ap (λ (n : ℕ). Continues (slice_set z 30 (result_of Add n (sign_extended 12 64 l))) (next pc)) e
 
 bit_row : (log : Log) (z : List ℕ) (bank pc : ℕ) → read z 3 ≡ bank_bytes log * bank → bank < 2 →
-    row (ShiftImmediate Srli 7 3 (offset_bits log)) z pc ≡ Continues (slice_set z 7 bank) (next pc)
+    row (ShiftImmediate Srli 7 3 (distance_bits (size_of log))) z pc ≡ Continues (slice_set z 7 bank) (next pc)
 unfolding row
-bit_row log z bank pc e b = ap (λ (n : ℕ). Continues (slice_set z 7 (result_of Srl n (offset_bits log))) (next pc)) e ∙
+bit_row log z bank pc e b = ap (λ (n : ℕ). Continues (slice_set z 7 (result_of Srl n (distance_bits (size_of log)))) (next pc)) e ∙
     ap (λ (n : ℕ). Continues (slice_set z 7 n) (next pc)) (bank_bit log bank b)
 
 add_row : (z : List ℕ) (v w pc : ℕ) → read z 30 ≡ v → read z 7 ≡ w → row (Op Add 30 30 7) z pc ≡ Continues (slice_set z 30 (result_of Add v w)) (next pc)
@@ -143,7 +144,7 @@ committed log thread bank r t x z pc few b c h =
     let second : row (OpImmediate Addi 30 30 (low_part r)) z1 (at + 4) ≡ Continues z2 (next (at + 4)) =
     low_row z1 (low_part r) v1 (at + 4) (read_same z 30 v1 h.count (lit< tt)) ∙
     ap (λ (n : ℕ). Continues (slice_set z1 30 n) (next (at + 4))) (resumes_at at r t c) in
-    let third : row (ShiftImmediate Srli 7 3 (offset_bits log)) z2 (at + 4 + 4) ≡ Continues z3 (next (at + 4 + 4)) =
+    let third : row (ShiftImmediate Srli 7 3 (distance_bits (size_of log))) z2 (at + 4 + 4) ≡ Continues z3 (next (at + 4 + 4)) =
     bit_row log z2 bank (at + 4 + 4) (read_other z1 30 3 v2 refl ∙ read_other z 30 3 v1 refl ∙ h.offset) b in
     let fourth : row (Op Add 30 30 7) z3 (at + 4 + 4 + 4) ≡ Continues z4 (next (at + 4 + 4 + 4)) =
     add_row z3 v2 bank (at + 4 + 4 + 4) (read_other z2 7 30 bank refl ∙ read_same z1 30 v2 l1 (lit< tt)) (read_same z2 7 bank l2 (lit< tt)) in
@@ -154,11 +155,11 @@ committed log thread bank r t x z pc few b c h =
     record {
       end = z4;
       runs = fence Fence (point log r ++ commit 30) z pc last z4 (fence_row z pc)
-          (go (Auipc 30 (upper_part r)) (OpImmediate Addi 30 30 (low_part r) ∷ ShiftImmediate Srli 7 3 (offset_bits log) ∷ Op Add 30 30 7 ∷ commit 30) z
+          (go (Auipc 30 (upper_part r)) (OpImmediate Addi 30 30 (low_part r) ∷ ShiftImmediate Srli 7 3 (distance_bits (size_of log)) ∷ Op Add 30 30 7 ∷ commit 30) z
           z1 at last
           z4 (auipc_row z (upper_part r) at)
-          (go (OpImmediate Addi 30 30 (low_part r)) (ShiftImmediate Srli 7 3 (offset_bits log) ∷ Op Add 30 30 7 ∷ commit 30) z1 z2 (at + 4) last z4 second
-          (go (ShiftImmediate Srli 7 3 (offset_bits log)) (Op Add 30 30 7 ∷ commit 30) z2 z3 (at + 4 + 4) last z4 third
+          (go (OpImmediate Addi 30 30 (low_part r)) (ShiftImmediate Srli 7 3 (distance_bits (size_of log)) ∷ Op Add 30 30 7 ∷ commit 30) z1 z2 (at + 4) last z4 second
+          (go (ShiftImmediate Srli 7 3 (distance_bits (size_of log))) (Op Add 30 30 7 ∷ commit 30) z2 z3 (at + 4 + 4) last z4 third
           (go (Op Add 30 30 7) (commit 30) z3 z4 (at + 4 + 4 + 4) last z4 fourth
           (commit_run log z4 30 thread v3 (at + 4 + 4 + 4 + 4) few logged value)))));
       left = record {

@@ -4,51 +4,67 @@ use Rattle.std.specs.Prelude.{slice_set}
 use Rattle.std.proofs.lemmas.List.{get_or-set_other}
 use Rattle.operator_code.proofs.Public.{read_other, read_same, length-changed}
 use Rattle.log_schemes.specs.Layout.{log_of, bank_bytes}
-use Rattle.log_schemes.specs.declared.log.Log.TheVariants.{V1, V2}
+use Rattle.log_schemes.specs.declared.size.LogSize.{LogSize}
+use Rattle.log_schemes.specs.declared.size.LogSize.TheVariants.{Lines16, Lines32}
 use Rattle.log_schemes.specs.declared.log.Log.{Log}
 use Rattle.rv64_isa.specs.declared.instr.Operation.TheVariants.{Srl, Xor}
 use Rattle.rv64_isa.specs.Rows.{read}
 use Rattle.rv64_isa.specs.Arithmetic.{result_of}
 use Rattle.memory_layout.specs.Roles.{is_temporary}
 use Rattle.boundary_code.specs.Boundaries.{IsUnderWay}
-use Rattle.boundary_code.specs.links.InstructionLists.{offset_bits}
+use Rattle.log_schemes.specs.Schemes.{bank_distance, distance_bits, lines_of, size_of}
+use Rattle.log_schemes.proofs.Public.{size_holds}
 
 pub not_temporary : (r t : ℕ) → is_temporary t ≡ true → is_temporary r ≡ false → r ≢ t
 not_temporary r t is_one is_none e = let same : is_temporary r ≡ is_temporary t = ap (λ (n : ℕ). is_temporary n) e in cc (same, is_one, is_none)
 
 -- ---- Arithmetic
 
-pub flip : (log : Log) (bank : ℕ) → bank < 2 → result_of Xor (bank_bytes log * bank) (bank_bytes log) ≡ bank_bytes log * (1 - bank)
+flip_sized : (size : LogSize) (bank : ℕ) → bank < 2 → result_of Xor (bank_distance size * bank) (bank_distance size) ≡ bank_distance size * (1 - bank)
 unfolding result_of
-flip V1 zero h = refl
-flip V1 (suc zero) h = refl
-flip V1 (suc (suc n)) h = absurd (let z : ⊥ = omega arith in z)
-flip V2 zero h = refl
-flip V2 (suc zero) h = refl
-flip V2 (suc (suc n)) h = absurd (let z : ⊥ = omega arith in z)
+flip_sized Lines16 zero h = refl
+flip_sized Lines16 (suc zero) h = refl
+flip_sized Lines16 (suc (suc n)) h = absurd (let z : ⊥ = omega arith in z)
+flip_sized Lines32 zero h = refl
+flip_sized Lines32 (suc zero) h = refl
+flip_sized Lines32 (suc (suc n)) h = absurd (let z : ⊥ = omega arith in z)
 
-pub bank_bit : (log : Log) (bank : ℕ) → bank < 2 → result_of Srl (bank_bytes log * bank) (offset_bits log) ≡ bank
+pub flip : (log : Log) (bank : ℕ) → bank < 2 → result_of Xor (bank_bytes log * bank) (bank_bytes log) ≡ bank_bytes log * (1 - bank)
+flip log bank h = flip_sized (size_of log) bank h
+
+bit_sized : (size : LogSize) (bank : ℕ) → bank < 2 → result_of Srl (bank_distance size * bank) (distance_bits size) ≡ bank
 unfolding result_of
-bank_bit V1 zero h = refl
-bank_bit V1 (suc zero) h = refl
-bank_bit V1 (suc (suc n)) h = absurd (let z : ⊥ = omega arith in z)
-bank_bit V2 zero h = refl
-bank_bit V2 (suc zero) h = refl
-bank_bit V2 (suc (suc n)) h = absurd (let z : ⊥ = omega arith in z)
+bit_sized Lines16 zero h = refl
+bit_sized Lines16 (suc zero) h = refl
+bit_sized Lines16 (suc (suc n)) h = absurd (let z : ⊥ = omega arith in z)
+bit_sized Lines32 zero h = refl
+bit_sized Lines32 (suc zero) h = refl
+bit_sized Lines32 (suc (suc n)) h = absurd (let z : ⊥ = omega arith in z)
+
+pub bank_bit : (log : Log) (bank : ℕ) → bank < 2 → result_of Srl (bank_bytes log * bank) (distance_bits (size_of log)) ≡ bank
+bank_bit log bank h = bit_sized (size_of log) bank h
 
 -- how far the second bank lies is an immediate
 pub bank_immediate : (log : Log) → bank_bytes log < 2 ^ 11
-bank_immediate V1 = lit< tt
-bank_immediate V2 = lit< tt
+bank_immediate log = let near = (size_holds (size_of log)).near in omega (arith, near)
 
 -- addresses of a log are small
+base_sized : (size : LogSize) (thread bank : ℕ) → thread < 8 → bank < 2 → 0x2000_0000 + 64 * lines_of size * thread + bank_distance size * bank < 2 ^ 32
+base_sized Lines16 thread bank t b = omega (arith, t, b)
+base_sized Lines32 thread bank t b = omega (arith, t, b)
+
 pub base_small : (log : Log) (thread bank : ℕ) → thread < 8 → bank < 2 → log_of log thread + bank_bytes log * bank < 2 ^ 32
-base_small V1 thread bank t b = omega (arith, t, b)
-base_small V2 thread bank t b = omega (arith, t, b)
+base_small log thread bank t b = base_sized (size_of log) thread bank t b
+
+low_sized : (size : LogSize) (thread : ℕ) → thread < 8 → 0x2000_0000 + 64 * lines_of size * thread < 2 ^ 31
+low_sized Lines16 thread t = omega (arith, t)
+low_sized Lines32 thread t = omega (arith, t)
+
+pub log_low : (log : Log) (thread : ℕ) → thread < 8 → log_of log thread < 2 ^ 31
+log_low log thread t = low_sized (size_of log) thread t
 
 pub log_small : (log : Log) (thread : ℕ) → thread < 8 → log_of log thread < 2 ^ 32
-log_small V1 thread t = omega (arith, t)
-log_small V2 thread t = omega (arith, t)
+log_small log thread t = let low = log_low log thread t in omega (arith, low)
 
 -- ---- Registers within a boundary
 

@@ -15,7 +15,8 @@ use Rattle.memory_layout.specs.Roles.{is_kept, is_temporary}
 use Rattle.operator_code.specs.StraightLineCode.{IsConstant, effects, registers_after}
 use Rattle.boundary_code.specs.Boundaries.{IsUnderWay}
 use Rattle.boundary_code.specs.Boundaries.{Boundary, IsOnSide, HasEffects, HasOffset, KeepsRegisters, boundary_effects, bank_effects, commit_effects}
-use Rattle.boundary_code.specs.Boundaries.{kept_locks, slots_kept, resume_address, lines_in_use, is_empty}
+use Rattle.boundary_code.specs.Boundaries.{slots_kept, resume_address, lines_in_use, is_empty}
+use Rattle.log_schemes.specs.Schemes.{kept_locks, register_slot}
 use Rattle.boundary_code.specs.links.InstructionLists.{KeptCode, bank_part, point, commit, boundary_list, last_list}
 use Rattle.operator_code.proofs.Public.{RunsFrom, along, fence, constant_runs, read_same, read_other}
 use Rattle.boundary_code.proofs.Registers.{not_temporary}
@@ -57,14 +58,14 @@ whole b address kept x pc bank p at =
     let r : ℕ = twos_complement 32 b.resume in
     let t : ℕ = twos_complement 64 b.resume in
     let other : ℕ = 1 - bank in
-    let first = banked b.log b.thread p.value bank address kept p.rest b.live x pc p.thread (kept_registers b.live p.live) at p.is_log p.is_first
+    let first = banked b.log b.thread p.value bank address kept p.rest b.live x pc p.thread (kept_registers b.log b.live p.live) at p.is_log p.is_first
     (λ y from h. p.others other x y from (omega arith) h) in
     let prefix : List Instr = bank_part b.log address kept b.live in
     let middle : ℕ = pc + 4 * length prefix in
     let second = committed b.log b.thread other r t x first.left middle p.thread (omega arith) (close b.resume p.low p.high) first.ready in
     let code : List Instr = parts b.log address kept b.live r in
     let as_kept : List (ℕ × ℕ) → List ℕ → List Effect = λ locks slots.
-    (stores_of b.log b.thread other locks ++ map (λ q. Stores (slot_at b.log b.thread other q) 8 (read x q)) b.live) ++
+    (stores_of b.log b.thread other locks ++ map (λ q. Stores (slot_at b.log b.thread other (register_slot b.log q)) 8 (read x q)) b.live) ++
     map (λ line. Cleans (slot_at b.log b.thread other (8 * line))) (lines_in_use b.log slots) in
     let written : List Effect = as_kept ((0, p.value) ∷ p.rest) kept.slots in
     let last : ℕ → List Effect = λ v. Fences ∷ Stores (point_at b.log b.thread) 8 v ∷ Cleans (point_at b.log b.thread) ∷ Fences ∷ [] in

@@ -57,7 +57,7 @@ lock_numbers = (OpImmediate Addi 5 0 5 ∷ []) ∷ (OpImmediate Addi 5 0 9 ∷ [
 list_code : List Instr
 unfolding lock_numbers
 list_code = boundary_list V2 (Lui 31 0x2_0000 ∷ [])
-    (record { first = OpImmediate Addi 7 0 2 ∷ []; others = keep_locks 32 lock_numbers; slots = 0 ∷ 32 ∷ 33 ∷ 8 ∷ [] }) (8 ∷ []) 0
+    (record { first = OpImmediate Addi 7 0 2 ∷ []; others = keep_locks V2 0 lock_numbers; slots = 0 ∷ 32 ∷ 33 ∷ 8 ∷ [] }) (8 ∷ []) 0
 
 seen_of_list : effects list_code zeros 0x1_0000 ≡
     Stores 0x2000_0440 8 2 ∷ Stores 0x2000_0540 8 5 ∷ Stores 0x2000_0548 8 9 ∷ Stores 0x2000_0480 8 0 ∷

@@ -4,7 +4,9 @@ use Rattle.std.specs.Prelude.{if◌then◌else◌, Vec}
 use Rattle.std.specs.Global.{Global}
 use Rattle.std.specs.List.{list_any}
 use Rattle.log_schemes.specs.declared.log.Log.{Log}
-use Rattle.log_schemes.specs.declared.log.Log.TheVariants.{V1, V2}
+use Rattle.log_schemes.specs.declared.keeping.Keeping.{Keeping}
+use Rattle.log_schemes.specs.declared.keeping.Keeping.TheVariants.{Masked, Listed}
+use Rattle.log_schemes.specs.Schemes.{bank_lines, keeping_of, kept_locks, lines_in_bank, lock_slot, register_slot, size_of}
 use Rattle.log_schemes.specs.Layout.{log_of, point_at, slot_at, bank_bytes}
 use Rattle.ido_base.specs.Locks.{locks_in, mask_with}
 use Rattle.rv64_isa.specs.declared.instr.Instr.{Instr}
@@ -30,54 +32,36 @@ abbrev pub is_empty : (locks : List ℕ) → Bool
 is_empty [] = true
 is_empty (lock ∷ locks) = false
 
--- a bank's lines
-abbrev pub bank_lines : Log → List ℕ
-bank_lines V1 = 0 ∷ 1 ∷ 2 ∷ 3 ∷ []
-bank_lines V2 = 0 ∷ 1 ∷ 2 ∷ 3 ∷ 4 ∷ 5 ∷ []
-
 -- the lines of a bank that have one of these slots
 abbrev pub lines_in_use : Log → (slots : List ℕ) → List ℕ
 lines_in_use log slots = filter (λ line. list_any (λ slot. slot / 8 == line) slots) (bank_lines log)
-
--- the locks, one in each slot from this one on
-abbrev pub listed_from : (slot : ℕ) → (locks : List ℕ) → List (ℕ × ℕ)
-listed_from slot [] = []
-listed_from slot (lock ∷ locks) = (slot, lock) ∷ listed_from (slot + 1) locks
-
--- the slots that keep locks, each with its value: slot 0 has the mask of them, or their number, and then they stand in slots of their own
-abbrev pub kept_locks : Log → (locks : List ℕ) → List (ℕ × ℕ)
-kept_locks V1 locks = (0, mask_with locks) ∷ []
-kept_locks V2 locks = (0, length locks) ∷ listed_from 32 locks
-
--- the locks are those of a mask of 64 bits
-pub record AreOfMask (locks : List ℕ) : Type 0 where
-  pub fits : mask_with locks < 2 ^ 64
-  pub read_back : locks_in (mask_with locks) ≡ locks
-
--- a bank has room for these locks: a mask can tell them, or each of them has a slot
-abbrev pub HaveRoom : Log → (locks : List ℕ) → Type 0
-HaveRoom V1 locks = AreOfMask locks
-HaveRoom V2 locks = length locks ≤ 16
 
 -- how many words the codes of the locks' numbers have, each with the store into its slot
 abbrev pub number_words : (codes : List (List Instr)) → ℕ
 number_words [] = 0
 number_words (code ∷ codes) = length code + 1 + number_words codes
 
--- how many words a boundary's code has at most, beside one for each live register, where a log that lists its locks has these codes for their numbers
+-- how many words the locks take, where a bank that lists them has these codes for their numbers
+abbrev pub words_for : Keeping → (codes : List (List Instr)) → ℕ
+words_for Masked codes = 0
+words_for Listed codes = number_words codes
+
+-- how many words a boundary's code has at most, beside one for each live register and those that the locks take
+abbrev pub fixed_words : Log → ℕ
+fixed_words log = 27 + 2 * lines_in_bank (size_of log)
+
 abbrev pub words_beside : Log → (codes : List (List Instr)) → ℕ
-words_beside V1 codes = 35
-words_beside V2 codes = 39 + number_words codes
+words_beside log codes = fixed_words log + words_for (keeping_of log) codes
 
 -- the slots of a bank that a boundary writes
 abbrev pub slots_kept : Log → (locks live : List ℕ) → List ℕ
-slots_kept log locks live = map (λ (kept : ℕ × ℕ). kept.0) (kept_locks log locks) ++ live
+slots_kept log locks live = map (λ (kept : ℕ × ℕ). kept.0) (kept_locks log locks) ++ map (register_slot log) live
 
 -- the bank gets the locks and the live registers, and its lines in use are cleaned
 abbrev pub bank_effects : Boundary → (bank : ℕ) → (registers : List ℕ) → List Effect
 bank_effects b bank x =
     map (λ (kept : ℕ × ℕ). Stores (slot_at b.log b.thread bank kept.0) 8 kept.1) (kept_locks b.log b.locks) ++
-    map (λ r. Stores (slot_at b.log b.thread bank r) 8 (read x r)) b.live ++
+    map (λ r. Stores (slot_at b.log b.thread bank (register_slot b.log r)) 8 (read x r)) b.live ++
     map (λ line. Cleans (slot_at b.log b.thread bank (8 * line))) (lines_in_use b.log (slots_kept b.log b.locks b.live))
 
 -- all that was cleaned is durable, before the point has a value, and then that is
@@ -124,6 +108,12 @@ pub record KeepsRegisters (log : Log) (code : List Instr) : Type 0 where
   pub keeps : (x : List ℕ) (pc side : ℕ) → IsOnSide log side x → (r : ℕ) → is_temporary r ≡ false → r ≢ bank_offset →
       read (registers_after code x pc) r ≡ read x r
 
+-- straight code of the boundary
+pub record IsStraightCodeOf (b : Boundary) (code : List Instr) : Type 0 where
+  pub effects_are : HasEffects b code
+  pub offset : HasOffset b.log b.locks code
+  pub keeps : KeepsRegisters b.log code
+
 -- ---- The two parts of a boundary whose bank lists locks: before the locks, and after them
 
 -- registers y within a boundary that writes this bank of the thread's log, begun with registers x: x31 has the log's address, x3 the bank's offset, and x30 the
@@ -144,7 +134,7 @@ pub record Opens (log : Log) (thread count : ℕ) (code : List Instr) : Type 0 w
 -- what is left to do after the locks: the bank gets the live registers, its lines in use are cleaned, and the point names it
 abbrev pub closing_effects : Boundary → (bank resume : ℕ) → (registers : List ℕ) → List Effect
 closing_effects b bank resume x =
-    map (λ r. Stores (slot_at b.log b.thread bank r) 8 (read x r)) b.live ++
+    map (λ r. Stores (slot_at b.log b.thread bank (register_slot b.log r)) 8 (read x r)) b.live ++
     map (λ line. Cleans (slot_at b.log b.thread bank (8 * line))) (lines_in_use b.log (slots_kept b.log b.locks b.live)) ++
     commit_effects b.log b.thread ((resume + bank) % 2 ^ 64)
 
@@ -157,40 +147,20 @@ pub record Closes (b : Boundary) (code : List Instr) : Type 0 where
   pub others : (x y : List ℕ) (pc side : ℕ) → IsUnderWay b.log b.thread (other_side side) x y → (r : ℕ) → is_temporary r ≡ false → r ≢ bank_offset →
       read (registers_after code y pc) r ≡ read x r
 
--- each lock's number gets a slot, from this one on
-abbrev pub keep_locks : (slot : ℕ) → (codes : List (List Instr)) → List Instr
-keep_locks slot [] = []
-keep_locks slot (code ∷ codes) = code ++ Store Sd 5 30 (64 + 8 * slot) ∷ keep_locks (slot + 1) codes
+-- each lock's number gets its slot in the list, the first of them that of this index
+abbrev pub keep_locks : Log → (index : ℕ) → (codes : List (List Instr)) → List Instr
+keep_locks log index [] = []
+keep_locks log index (code ∷ codes) = code ++ Store Sd 5 30 (64 + 8 * lock_slot log index) ∷ keep_locks log (index + 1) codes
 
 -- between the two parts stands for each lock the code that leaves its number in x5, and a store into its slot
-pub record IsListCode (thread : ℕ) (live : List ℕ) (resume : ℤ) (codes : List (List Instr)) (code : List Instr) : Type 0 where
+pub record IsListCode (log : Log) (thread : ℕ) (live : List ℕ) (resume : ℤ) (codes : List (List Instr)) (code : List Instr) : Type 0 where
   pub opening : List Instr
   pub closing : List Instr
-  pub split : code ≡ opening ++ (keep_locks 32 codes ++ closing)
-  pub opens : Opens V2 thread (length codes) opening
+  pub split : code ≡ opening ++ (keep_locks log 0 codes ++ closing)
+  pub opens : Opens log thread (length codes) opening
   pub closes : (numbers : List ℕ) → length numbers ≡ length codes →
-      Closes (record { log = V2; thread = thread; locks = numbers; live = live; resume = resume }) closing
-
--- ---- Numbers of locks
+      Closes (record { log = log; thread = thread; locks = numbers; live = live; resume = resume }) closing
 
 -- the instructions in each of the lists
 abbrev pub lists_of : List (Vec Instr Global) → List (List Instr)
 lists_of codes = map (λ (code : Vec Instr Global). code.items) codes
-
--- code that leaves the number of a lock in x5. It writes no registers but x5, x6, x7 and x30, and memory sees nothing of it. Where x30 has the sum of x31
--- and x3, it has it again in the end: code that needs it for something else adds them once more
-pub record GivesNumber (number : ℕ) (code : List Instr) : Type 0 where
-  pub unseen : (x : List ℕ) (pc : ℕ) → length x ≡ 32 → read x 0 ≡ 0 → effects code x pc ≡ []
-  pub count : (x : List ℕ) (pc : ℕ) → length x ≡ 32 → read x 0 ≡ 0 → length (registers_after code x pc) ≡ 32
-  pub number_is : (x : List ℕ) (pc : ℕ) → length x ≡ 32 → read x 0 ≡ 0 → read (registers_after code x pc) 5 ≡ number
-  pub base : (x : List ℕ) (pc : ℕ) → length x ≡ 32 → read x 0 ≡ 0 → read x 30 ≡ read x 31 + read x 3 →
-      read (registers_after code x pc) 30 ≡ read x 30
-  pub others : (x : List ℕ) (pc r : ℕ) → length x ≡ 32 → read x 0 ≡ 0 → r ≢ 5 → r ≢ 6 → r ≢ 7 → r ≢ 30 →
-      read (registers_after code x pc) r ≡ read x r
-
--- each of the lists of instructions leaves the lock's number at its place
-abbrev pub GiveNumbers : (numbers : List ℕ) → (codes : List (List Instr)) → Type 0
-GiveNumbers [] [] = Unit {0}
-GiveNumbers [] (code ∷ codes) = ⊥
-GiveNumbers (number ∷ numbers) [] = ⊥
-GiveNumbers (number ∷ numbers) (code ∷ codes) = GivesNumber number code × GiveNumbers numbers codes

@@ -1,21 +1,21 @@
 //! A boundary: the bank that the point doesn't name gets what is live, and then the point names it.
-ghost use Rattle.std.specs.Prelude.{◌≡◌, ◌≢◌, ◌<◌, ◌≤◌, ◌+◌, ◌*◌, ◌^◌, ◌++◌, ◌∷◌, ◌==◌, ◌/◌, ℕ, List};
-ghost use Rattle.std.specs.Prelude.{[], map, filter, length, pos, negsuc, ◌≤ℤ◌, IsTrue, IfOk, OnOk};
-ghost use Rattle.std.specs.List.{All, list_all, list_any};
+ghost use Rattle.std.specs.Prelude.{◌≡◌, ◌≢◌, ◌<◌, ◌≤◌, ◌+◌, ◌*◌, ◌++◌, ◌∷◌, ◌==◌, ◌/◌};
+ghost use Rattle.std.specs.Prelude.{[], map, length, pos, negsuc, ◌≤ℤ◌, IsTrue, IfOk, OnOk};
+ghost use Rattle.std.specs.List.{list_all, list_any};
 ghost use Rattle.ido_base.specs.Locks.{locks_in};
-ghost use Rattle.log_schemes.specs.declared.log.Log.TheVariants.{V1, V2};
+ghost use Rattle.log_schemes.specs.declared.keeping.Keeping.TheVariants.{Listed, Masked};
+ghost use Rattle.log_schemes.specs.Schemes.{keeping_of, lock_slot, numbers_from, register_slot};
 ghost use Rattle.ido_base.specs.declared.limits.TheConstants.{MOST_THREADS};
-ghost use Rattle.machine_model.specs.Machine.{numbers_from};
 ghost use Rattle.rv64_isa.specs.Signed.{twos_complement};
 ghost use Rattle.memory_layout.specs.Roles.{is_kept};
-ghost use Rattle.boundary_code.specs.Boundaries.{HasEffects, HasOffset, KeepsRegisters, GiveNumbers, bank_lines, lines_in_use};
+ghost use Rattle.boundary_code.specs.Boundaries.{IsStraightCodeOf, fixed_words, lines_in_use};
 ghost use Rattle.boundary_code.specs.Boundaries.{keep_locks, IsListCode, lists_of, number_words};
 ghost use Rattle.boundary_code.specs.links.InstructionLists.{keep_slots, clean_lines, clean_where};
-ghost use Rattle.boundary_code.specs.links.InstructionLists.{offset_bits, point, commit, bank_part, boundary_list};
+ghost use Rattle.boundary_code.specs.links.InstructionLists.{point, commit, boundary_list};
 ghost use Rattle.boundary_code.specs.links.InstructionLists.{last_list};
 
 use ido_base::memory::OutOfMemory;
-use log_schemes::addresses::{FIRST_BANK, LINE_SLOTS, SLOT_BYTES, log_of};
+use log_schemes::addresses::{FIRST_BANK, LINE_SLOTS, LOCKS_SLOT, SLOT_BYTES, log_of};
 use log_schemes::log::Log;
 use operator_code::constant::constant;
 use operator_code::instructions::{add, auipc, immediate, sd, shift};
@@ -38,40 +38,26 @@ const NEXT: Register = Register::X7;
 /// The number of a lock, where a bank lists them.
 const LOCK: Register = Register::X5;
 
-/// The lines of a bank that keeps a mask.
-const MASK_LINES: [u8; 4] = [0, 1, 2, 3];
-
-/// The lines of a bank that lists the locks.
-const LIST_LINES: [u8; 6] = [0, 1, 2, 3, 4, 5];
-
-/// The first slot of a listed lock.
-const FIRST_LOCK: u8 = 32;
-
 /// Bytes of the instructions from the AUIPC to a boundary's end.
 const POINT_BYTES: i32 = 28;
 
-/// By so many bits the offset of a bank is its number.
-fn offset_bits(log: Log) -> u8
-    ensures is { result ≡ offset_bits log }
-    ensures few { result < 64 }
-{
-    match log {
-        Log::V1 => 8,
-        Log::V2 => 10,
-    }
-}
-
 /// The slots that a bank needs: slot 0, those of so many listed locks, and those of the live registers.
-fn slots_in_use(alloc: Global, locks: u8, live: &[Register]) -> Result<Vec<u8>, OutOfMemory>
-    requires { locks ≤ 16 }
-    ensures { IfOk result (λ slots. slots.items ≡ (0 ∷ numbers_from 32 locks) ++ live.now) }
+fn slots_in_use(
+    alloc: Global,
+    log: Log,
+    locks: u8,
+    live: &[Register],
+) -> Result<Vec<u8>, OutOfMemory>
+    requires few { locks ≤ 16 }
+    requires keeping { 0 < locks → keeping_of log ≡ Listed }
+    ensures { IfOk result (λ slots. slots.items ≡ (0 ∷ map (lock_slot log) (numbers_from 0 locks)) ++ map (register_slot log) live.now) }
 {
-    let mut slots: Vec<u8> = vec![in alloc; 0]?;
+    let mut slots: Vec<u8> = vec![in alloc; LOCKS_SLOT]?;
     for lock in 0..locks {
-        slots.push(FIRST_LOCK + lock)?;
+        slots.push(log.lock_slot(lock))?;
     }
     for register in live {
-        slots.push(register.number())?;
+        slots.push(log.register_slot(register.number()))?;
     }
     Ok(slots)
 }
@@ -88,27 +74,40 @@ fn is_in_use(line: u8, slots: &[u8]) -> bool
     false
 }
 
+/// How far a slot of a bank lies after the address of its log and the offset of the bank.
+fn slot_offset(slot: u8) -> u16
+    requires { slot < 48 }
+    ensures is { result ≡ 64 + 8 * slot }
+    ensures near { result < 2048 }
+{
+    FIRST_BANK as u16 + SLOT_BYTES as u16 * u16::from(slot)
+}
+
 /// The slots of the live registers get them.
-fn emit_slots(code: &mut Vec<Instr>, live: &[Register]) -> Result<(), OutOfMemory>
-    ensures { OnOk result (code.new.items ≡ code.old.items ++ keep_slots live.now) }
+fn emit_slots(code: &mut Vec<Instr>, log: Log, live: &[Register]) -> Result<(), OutOfMemory>
+    ensures { OnOk result (code.new.items ≡ code.old.items ++ keep_slots log live.now) }
 {
     for register in live {
-        let slot = FIRST_BANK as u16 + SLOT_BYTES as u16 * u16::from(register.number());
-        code.push(sd(*register, slot, BANK))?;
+        code.push(sd(
+            *register,
+            slot_offset(log.register_slot(register.number())),
+            BANK,
+        ))?;
     }
     Ok(())
 }
 
-/// Each lock's number gets a slot, from slot 32 on.
-fn emit_locks(code: &mut Vec<Instr>, locks: &[Vec<Instr>]) -> Result<(), OutOfMemory>
-    requires { length locks.now ≤ 16 }
-    ensures { OnOk result (code.new.items ≡ code.old.items ++ keep_locks 32 (lists_of locks.now)) }
+/// Each lock's number gets its slot in the list.
+fn emit_locks(code: &mut Vec<Instr>, log: Log, locks: &[Vec<Instr>]) -> Result<(), OutOfMemory>
+    requires few { length locks.now ≤ 16 }
+    requires keeping { keeping_of log ≡ Listed }
+    ensures { OnOk result (code.new.items ≡ code.old.items ++ keep_locks log 0 (lists_of locks.now)) }
 {
-    let mut slot = FIRST_BANK as u16 + SLOT_BYTES as u16 * u16::from(FIRST_LOCK);
+    let mut index = 0;
     for lock in locks {
         code.extend_from_slice(lock)?;
-        code.push(sd(LOCK, slot, BANK))?;
-        slot += SLOT_BYTES as u16;
+        code.push(sd(LOCK, slot_offset(log.lock_slot(index)), BANK))?;
+        index += 1;
     }
     Ok(())
 }
@@ -137,13 +136,11 @@ fn emit_clean(code: &mut Vec<Instr>, line: u8, slots: &[u8]) -> Result<(), OutOf
 }
 
 /// Those of the bank's lines that are in use are cleaned.
-fn emit_cleans(code: &mut Vec<Instr>, lines: &[u8], slots: &[u8]) -> Result<(), OutOfMemory>
-    requires { All (λ line. line < 6) lines.now }
-    ensures { OnOk result (code.new.items
-        ≡ code.old.items ++ clean_lines (filter (λ line. list_any (λ slot. slot / 8 == line) slots.now) lines.now)) }
+fn emit_cleans(code: &mut Vec<Instr>, log: Log, slots: &[u8]) -> Result<(), OutOfMemory>
+    ensures { OnOk result (code.new.items ≡ code.old.items ++ clean_lines (lines_in_use log slots.now)) }
 {
-    for line in lines {
-        emit_clean(code, *line, slots)?;
+    for line in 0..log.size().bank_lines() {
+        emit_clean(code, line, slots)?;
     }
     Ok(())
 }
@@ -163,7 +160,12 @@ fn point(log: Log, resume: i32) -> [Instr; 4]
             BANK,
             (distance % 4096) as u16,
         ),
-        shift(ShiftOperation::Srli, NEXT, BANK_OFFSET, offset_bits(log)),
+        shift(
+            ShiftOperation::Srli,
+            NEXT,
+            BANK_OFFSET,
+            log.size().distance_bits(),
+        ),
         add(BANK, BANK, NEXT),
     ]
 }
@@ -179,23 +181,20 @@ fn commit(register: Register) -> [Instr; 3]
     ]
 }
 
-/// A boundary of a log whose banks have these lines: these instructions get the address of the log, what slot 0 gets, and store
-/// what other slots get of the locks; the live registers are kept, and these slots are in use.
+/// A boundary: these instructions get the address of the log, what slot 0 gets, and store what other slots get of the locks; the live registers are kept,
+/// and these slots are in use.
 fn emit_boundary(
     alloc: Global,
     log: Log,
     address: &[Instr],
     first: &[Instr],
     others: &[Instr],
-    lines: &[u8],
     slots: &[u8],
     live: &[Register],
     resume: i32,
 ) -> Result<Vec<Instr>, OutOfMemory>
     requires low { negsuc 262143 ≤ℤ resume }
     requires high { resume ≤ℤ pos 262144 }
-    requires lines { lines.now ≡ bank_lines log }
-    requires few { All (λ line. line < 6) lines.now }
     ensures { IfOk result (λ code. code.items ≡ boundary_list log address.now
         (record { first = first.now; others = others.now; slots = slots.now }) live.now (twos_complement 32 resume)) }
 {
@@ -211,8 +210,8 @@ fn emit_boundary(
     code.extend_from_slice(first)?;
     code.push(sd(NEXT, FIRST_BANK as u16, BANK))?;
     code.extend_from_slice(others)?;
-    emit_slots(&mut code, live)?;
-    emit_cleans(&mut code, lines, slots)?;
+    emit_slots(&mut code, log, live)?;
+    emit_cleans(&mut code, log, slots)?;
     code.push(Instr::Fence)?;
     code.extend_from_slice(&point(log, resume))?;
     code.extend_from_slice(&commit(BANK))?;
@@ -236,84 +235,62 @@ fn emit_last_boundary(alloc: Global, log: &[Instr]) -> Result<Vec<Instr>, OutOfM
 /// x3 and the temporaries as they were; x3 has the offset of the bank written, and with mask 0 the same as before.
 pub fn boundary(
     alloc: Global,
+    log: Log,
     thread: u32,
     mask: u64,
     live: &[Register],
     resume: i32,
 ) -> Result<Vec<Instr>, OutOfMemory>
+    requires keeping { keeping_of log ≡ Masked }
     requires thread { thread < MOST_THREADS }
     requires live { IsTrue (list_all is_kept live.now) }
     requires low { negsuc 262143 ≤ℤ resume }
     requires high { resume ≤ℤ pos 262144 }
-    ensures short { IfOk result (λ code. length code.items ≤ length live.now + 35) }
-    ensures effects { IfOk result (λ code.
-        HasEffects (record { log = V1; thread = thread; locks = locks_in mask; live = live.now; resume = resume }) code.items) }
-    ensures offset { IfOk result (λ code. HasOffset V1 (locks_in mask) code.items) }
-    ensures others { IfOk result (λ code. KeepsRegisters V1 code.items) }
+    ensures short { IfOk result (λ code. length code.items ≤ length live.now + fixed_words log) }
+    ensures code { IfOk result (λ code.
+        IsStraightCodeOf (record { log = log; thread = thread; locks = locks_in mask; live = live.now; resume = resume }) code.items) }
 {
-    let log = constant(alloc, LOG, log_of(Log::V1, thread))?;
+    let address = constant(alloc, LOG, log_of(log, thread))?;
     if mask == 0 {
-        return emit_last_boundary(alloc, &log);
+        return emit_last_boundary(alloc, &address);
     }
-    let record = constant(alloc, NEXT, mask)?;
-    let slots = slots_in_use(alloc, 0, live)?;
-    emit_boundary(
-        alloc,
-        Log::V1,
-        &log,
-        &record,
-        &[],
-        &MASK_LINES,
-        &slots,
-        live,
-        resume,
-    )
+    let first = constant(alloc, NEXT, mask)?;
+    let slots = slots_in_use(alloc, log, 0, live)?;
+    emit_boundary(alloc, log, &address, &first, &[], &slots, live, resume)
 }
 
 /// The code of a boundary where a bank lists the held locks: of each lock in the list's order there are instructions that leave
-/// its number in x5 and touch no memory; they write only x5, x6, x7 and x30, and x30 has the sum of x31 and x3 again in the end. The
-/// other bank gets how many locks are held after it, their numbers and the live registers, its lines in use are cleaned, and a FENCE
-/// makes them durable, with what was cleaned before; then the point gets the address that lies `resume` bytes after the boundary's
-/// end, and the bank, is cleaned, and a FENCE makes it durable. No locks end a section: no bank is written and the point gets 0. It
-/// leaves all registers but x3 and the temporaries as they were; x3 has the offset of the bank written, and without locks the same
-/// as before.
+/// its number in x5, and x30 and x31 with the addresses that they had. The other bank gets how many locks are held after it, their numbers and the live
+/// registers, its lines in use are cleaned, and a FENCE makes them durable, with what was cleaned before; then the point gets the address that lies `resume`
+/// bytes after the boundary's end, and the bank, is cleaned, and a FENCE makes it durable. No locks end a section: no bank is written and the point gets 0. It
+/// leaves all registers but x3 and the temporaries as they were; x3 has the offset of the bank written, and without locks the same as before.
 pub fn boundary_list(
     alloc: Global,
+    log: Log,
     thread: u32,
     locks: &[Vec<Instr>],
     live: &[Register],
     resume: i32,
 ) -> Result<Vec<Instr>, OutOfMemory>
+    requires keeping { keeping_of log ≡ Listed }
     requires thread { thread < MOST_THREADS }
     requires locks { length locks.now ≤ 16 }
     requires live { IsTrue (list_all is_kept live.now) }
     requires low { negsuc 262143 ≤ℤ resume }
     requires high { resume ≤ℤ pos 262144 }
-    ensures short { IfOk result (λ code. length code.items ≤ length live.now + 39 + number_words (lists_of locks.now)) }
-    ensures effects { (numbers : List ℕ) → GiveNumbers numbers (lists_of locks.now) → IfOk result (λ code.
-        HasEffects (record { log = V2; thread = thread; locks = numbers; live = live.now; resume = resume }) code.items) }
-    ensures offset { (numbers : List ℕ) → GiveNumbers numbers (lists_of locks.now) → IfOk result (λ code. HasOffset V2 numbers code.items) }
-    ensures others { (numbers : List ℕ) → GiveNumbers numbers (lists_of locks.now) → IfOk result (λ code. KeepsRegisters V2 code.items) }
-    ensures parts { length locks.now ≢ 0 → IfOk result (λ code. IsListCode thread live.now resume (lists_of locks.now) code.items) }
+    ensures short { IfOk result (λ code. length code.items ≤ length live.now + fixed_words log + number_words (lists_of locks.now)) }
+    ensures last { length locks.now ≡ 0 → IfOk result (λ code.
+        IsStraightCodeOf (record { log = log; thread = thread; locks = []; live = live.now; resume = resume }) code.items) }
+    ensures parts { length locks.now ≢ 0 → IfOk result (λ code. IsListCode log thread live.now resume (lists_of locks.now) code.items) }
 {
-    let log = constant(alloc, LOG, log_of(Log::V2, thread))?;
+    let address = constant(alloc, LOG, log_of(log, thread))?;
     if locks.is_empty() {
-        return emit_last_boundary(alloc, &log);
+        return emit_last_boundary(alloc, &address);
     }
     let count = locks.len() as u8;
-    let record = constant(alloc, NEXT, u64::from(count))?;
+    let first = constant(alloc, NEXT, u64::from(count))?;
     let mut others: Vec<Instr> = Vec::new(alloc);
-    emit_locks(&mut others, locks)?;
-    let slots = slots_in_use(alloc, count, live)?;
-    emit_boundary(
-        alloc,
-        Log::V2,
-        &log,
-        &record,
-        &others,
-        &LIST_LINES,
-        &slots,
-        live,
-        resume,
-    )
+    emit_locks(&mut others, log, locks)?;
+    let slots = slots_in_use(alloc, log, count, live)?;
+    emit_boundary(alloc, log, &address, &first, &others, &slots, live, resume)
 }

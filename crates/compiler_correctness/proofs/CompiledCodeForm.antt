@@ -11,6 +11,7 @@ use Rattle.code_runs.specs.CodeTraces.{Trace, Program, MarkedEnvironment, Meets,
 use Rattle.node_code.specs.Pieces.{boundary_observations}
 use Rattle.code_runs.specs.ComputingRuns.{LocalConfig, config}
 use Rattle.boundary_code.specs.Boundaries.{Boundary, IsOnSide}
+use Rattle.log_schemes.specs.Schemes.{keeping_of}
 use Rattle.log_schemes.specs.declared.log.Log.{Log}
 use Rattle.ido_ints.specs.declared.kinds.Kind.{Kind}
 use Rattle.c_tree.specs.Flats as f
@@ -529,7 +530,7 @@ compiled_code_has_form locked y s minimal fewest =
     let many : threads_of y ≡ length (flat_of y).threads =
     ap (λ (xs : List Part). length xs) (threads_are y.plan s.plan) ∙ length_parts (flat_of y).threads 0 in
     record {
-      single = λ masks. (s.plan.plain (s.log ∙ masks)).single;
+      single = λ masks. (s.plan.plain (ap keeping_of s.log ∙ masks)).single;
       initial = s.initial;
       mutexes = s.mutexes;
       count = s.count ∙ many;

@@ -84,7 +84,7 @@ module _ (marks : List (List ℕ)) (program : List (List Slot)) where
       by true = more_lives (schedules s) ([] ∷ [])
       by false = lives_grow s.earlier s.kept s.kept (itself s.kept)
 
-  along_lives : (events : List Event) (w : World) (s : Steps) → BeginLives (schedules (steps_along marks program w events s)) (schedules s)
+  pub along_lives : (events : List Event) (w : World) (s : Steps) → BeginLives (schedules (steps_along marks program w events s)) (schedules s)
   along_lives [] w s = lives_grow s.earlier s.kept s.kept (itself s.kept)
   along_lives (event ∷ events) w s =
       let t : Steps = steps_after marks program w event s in

@@ -11,4 +11,5 @@ mod ImageWords
 mod MarksReached
 mod BoundedDelay
 mod RecoveredRuns
+mod SettledImages
 pub mod Public

@@ -30,9 +30,11 @@ use Rattle.crash_simulation.specs.ThreadGhosts.{ThreadGhost}
 use Rattle.crash_simulation.specs.SimulationRelation.{SimulatesBut, Simulates}
 use Rattle.crash_simulation.specs.InstructionSteps.{IsUnlocked, was_unlocked, begins_unlock, FragmentsStep, CoresStep}
 use Rattle.crash_simulation.specs.AccountRelation.{SimulatesLives, beginning_after, first_beginning}
-use Rattle.crash_simulation.proofs.Public.{resumed, AreFurthest, counted_by, begun_by, begun_in, Continues, event_goes_on, first_life, first_origin, has_begun}
+use Rattle.crash_simulation.proofs.Public.{resumed, AreFurthest, counted_by, begun_by, begun_in, Continues, event_goes_on, first_life, first_origin}
+use Rattle.crash_simulation.proofs.Public.{has_begun, HasBegun}
 use Rattle.crash_simulation.proofs.Public.{life_begins, life_goes_on, none_begins, none_more, released_by, start_counted}
-use Rattle.compiler_correctness.specs.Translations.{Translation, steps, source}
+use Rattle.compiler_correctness.specs.Translations.{Translation, source}
+use Rattle.compiler_correctness.specs.Compilation.{IsInStep}
 use Rattle.compiler_correctness.proofs.LaterLives.{begun_state, runnable, source_is}
 use Rattle.compiler_correctness.specs.Laws.{translation_of, MachinesKeepStep}
 use Rattle.compiler_correctness.proofs.Records.{agree}
@@ -65,25 +67,36 @@ live_is_now x z i furthest = variables_same z.memory (now z).variables (i.size �
 -- ---- In step
 
 -- what a thread has still to give back its last step that has begun has unlocked
-abbrev AreLastUnlocked : (from : m.State) → (ghosts : ℕ → ThreadGhost) → (begun : List ℕ) → Type 0
+abbrev pub AreLastUnlocked : (from : m.State) → (ghosts : ℕ → ThreadGhost) → (begun : List ℕ) → Type 0
 AreLastUnlocked from ghosts begun = (n mutex : ℕ) → (ghosts n).giving ≡ Some mutex → LastUnlocks from begun n mutex
 
 -- all steps that have begun in this life can be stepped, and lead to the state now; and no attempt goes over what an earlier one did
-record InStep (y : System) (s : IsSystem y) (w : World) (stands : Simulates y s w) (from : m.State) (begun : List ℕ) : Type 0 where
-  runs : m.runs_from from begun ≡ true
-  leads : m.after_from from begun ≡ now stands.abstract.config
-  furthest : AreFurthest stands.abstract.config
-  unlocked : AreLastUnlocked from stands.ghosts begun
+pub record InStep (y : System) (s : IsSystem y) (w : World) (stands : Simulates y s w) (from : m.State) (begun : List ℕ) : Type 0 where
+  pub runs : m.runs_from from begun ≡ true
+  pub leads : m.after_from from begun ≡ now stands.abstract.config
+  pub furthest : AreFurthest stands.abstract.config
+  pub unlocked : AreLastUnlocked from stands.ghosts begun
 
 -- where this life begins
-abbrev beginning : (y : System) {s : IsSystem y} {w : World} {steps : Steps} {releases : ℕ → ℕ} → SimulatesLives y s (first_beginning y) w steps releases →
+abbrev pub beginning : (y : System) {s : IsSystem y} {w : World} {steps : Steps} {releases : ℕ → ℕ} → SimulatesLives y s (first_beginning y) w steps releases →
     m.State
 beginning y z = (beginning_after y (first_beginning y) z.lives).from
 
 -- how a machine and the source stand in a life without a crash
-record Going (y : System) (s : IsSystem y) (w : World) (steps : Steps) (releases : ℕ → ℕ) : Type 0 where
-  carried : SimulatesLives y s (first_beginning y) w steps releases
-  in_step : w.recovering ≡ false → InStep y s w carried.is.stands (beginning y carried) steps.begun
+pub record Going (y : System) (s : IsSystem y) (w : World) (steps : Steps) (releases : ℕ → ℕ) : Type 0 where
+  pub carried : SimulatesLives y s (first_beginning y) w steps releases
+  pub in_step : w.recovering ≡ false → InStep y s w carried.is.stands (beginning y carried) steps.begun
+
+-- where the life has only begun, nothing is begun
+pub begins_in_step : (y : System) (s : IsSystem y) (w : World) (steps : Steps) (releases : ℕ → ℕ)
+    (carried : SimulatesLives y s (first_beginning y) w steps releases) → HasBegun y s w carried.is.stands → steps.begun ≡ [] →
+    InStep y s w carried.is.stands (beginning y carried) steps.begun
+begins_in_step y s w steps releases carried new none = record {
+  runs = ap (m.runs_from (beginning y carried)) none;
+  leads = ap (m.after_from (beginning y carried)) none ∙ (sym carried.is.counted.begins ∙ sym new.now_is);
+  furthest = new.furthest;
+  unlocked = λ n mutex gives. absurd (none-some mutex (sym (new.none_giving n) ∙ gives));
+}
 
 -- ---- What is begun
 
@@ -93,7 +106,7 @@ begun_is false true h position s = sym (append-nil s.begun)
 begun_is true false h position s = refl
 begun_is true true h position s = refl
 
-begun_after : (y : System) (w : World) (event : Event) → KeepsOn event → (steps : Steps) →
+pub begun_after : (y : System) (w : World) (event : Event) → KeepsOn event → (steps : Steps) →
     (steps_after y.runs.marks y.runs.program w event steps).begun ≡ steps.begun ++ begun_in y w event
 unfolding steps_after
 begun_after y w (Step h) on steps =
@@ -119,14 +132,14 @@ unfolding happens after_crash_of
 crash_recovers program w = refl
 
 -- a start that begins no life changes nothing
-nothing_starts : (program : List (List Slot)) (w : World) → can_start w ≡ false → after_event program w Start ≡ w
+pub nothing_starts : (program : List (List Slot)) (w : World) → can_start w ≡ false → after_event program w Start ≡ w
 nothing_starts program w none = ap (λ (o : Outcome). o.0) (starts_by program w ∙ ap (outcome_of program w) none)
 
-begun_none : (y : System) (w : World) (steps : Steps) → can_start w ≡ true → (steps_after y.runs.marks y.runs.program w Start steps).begun ≡ []
+pub begun_none : (y : System) (w : World) (steps : Steps) → can_start w ≡ true → (steps_after y.runs.marks y.runs.program w Start steps).begun ≡ []
 unfolding steps_after
 begun_none y w steps may = ap (λ (b : Bool). (if b then next_life steps else steps).begun) may
 
-steps_stay : (y : System) (w : World) (steps : Steps) → can_start w ≡ false → steps_after y.runs.marks y.runs.program w Start steps ≡ steps
+pub steps_stay : (y : System) (w : World) (steps : Steps) → can_start w ≡ false → steps_after y.runs.marks y.runs.program w Start steps ≡ steps
 unfolding steps_after
 steps_stay y w steps none = ap (λ (b : Bool). if b then next_life steps else steps) none
 
@@ -212,17 +225,7 @@ module _ (fragments_step : FragmentsStep) (cores_step : CoresStep) (law : Fragme
     begins_going may =
         let o = event_goes_on fragments_step cores_step law y s w Start old in
         let carried = life_begins fragments_step cores_step law y s w Start steps releases may going.carried in
-        let new = o.anew may in
-        let here = carried.is.counted.begins in
-        record {
-          carried = carried;
-          in_step = λ none. record {
-            runs = ap (m.runs_from (beginning y carried)) (begun_none y w steps may);
-            leads = ap (m.after_from (beginning y carried)) (begun_none y w steps may) ∙ (sym here ∙ sym new.now_is);
-            furthest = new.furthest;
-            unlocked = λ n mutex gives. absurd (none-some mutex (sym (new.none_giving n) ∙ gives));
-          };
-        }
+        record { carried = carried; in_step = λ none. begins_in_step y s _ _ _ carried (o.anew may) (begun_none y w steps may) }
 
     -- or nothing changes
     same_going : can_start w ≡ false → GoingThen Start
@@ -237,7 +240,7 @@ module _ (fragments_step : FragmentsStep) (cores_step : CoresStep) (law : Fragme
     start_event_going true may = begins_going may
     start_event_going false none = same_going none
 
-    each_going : (event : Event) → GoingThen event
+    pub each_going : (event : Event) → GoingThen event
     each_going (Step h) = event_going (Step h) tt
     each_going (Evict line mask) = event_going (Evict line mask) tt
     each_going Crash = crash_going
@@ -267,26 +270,31 @@ start_going y s =
 
 -- ---- Machines keep step with the source
 
-pub machines_keep_step : MarksPass → FragmentsStep → CoresStep → FragmentsGoOn → MachinesKeepStep
-machines_keep_step marks fragments_step cores_step law y s events none =
-    let going = (all_going fragments_step cores_step law y s events _ _ _ (start_going y s)).1 in
+pub in_step_at : MarksPass → (y : System) (s : IsSystem y) (w : World) (account : Steps) (releases : ℕ → ℕ) → Going y s w account releases →
+    w.recovering ≡ false → IsInStep (translation_of y) w account
+in_step_at marks y s w account releases going none =
     let in_step = going.in_step none in
     let resumes = going.carried in
     let is = resumes.is in
     let c : Translation = translation_of y in
-    let begun : List ℕ = (steps c events).begun in
+    let begun : List ℕ = account.begun in
     let same : is.stands.abstract.origin.source ≡ beginning y resumes = is.counted.begins in
-    let leads : source c ((steps c events).earlier ++ begun ∷ []) ≡ now is.stands.abstract.config =
-    source_is y s _ _ resumes begun ∙ (ap (λ (from : m.State). m.after_from from begun) same ∙ in_step.leads) in
+    let leads : source c (account.earlier ++ begun ∷ []) ≡ now is.stands.abstract.config =
+    source_is y s w account resumes begun ∙ (ap (λ (from : m.State). m.after_from from begun) same ∙ in_step.leads) in
     record {
-      runs = runnable y s _ _ resumes begun (ap (λ (from : m.State). m.runs_from from begun) same ∙ in_step.runs);
+      runs = runnable y s w account resumes begun (ap (λ (from : m.State). m.runs_from from begun) same ∙ in_step.runs);
       variables =
-          live_are_memory (flat_of y).variables _ (well_formed_placed (flat_of y) s.plan.formed).room
+          live_are_memory (flat_of y).variables w.words (well_formed_placed (flat_of y) s.plan.formed).room
           ∙ (ap (λ (memory : Memory). map (map live_number) memory) is.stands.memory
           ∙ (live_is_now (flat_of y) is.stands.abstract.config (resumed y s is.stands.abstract).resumed.invariant in_step.furthest
           ∙ ap (λ (z : m.State). z.variables) (sym leads)));
       locks_agree = λ h hart there on.
-          agree y s _ _ resumes h hart there begun leads marks
-          (λ mutex gives. subst (λ (from : m.State). LastUnlocks from begun h mutex) (sym same ∙ sym (begun_state y s _ _ resumes))
+          agree y s w account resumes h hart there begun leads marks
+          (λ mutex gives. subst (λ (from : m.State). LastUnlocks from begun h mutex) (sym same ∙ sym (begun_state y s w account resumes))
           (in_step.unlocked h mutex gives)) on;
     }
+
+pub machines_keep_step : MarksPass → FragmentsStep → CoresStep → FragmentsGoOn → MachinesKeepStep
+machines_keep_step marks fragments_step cores_step law y s events none =
+    let stays = all_going fragments_step cores_step law y s events _ _ _ (start_going y s) in
+    in_step_at marks y s _ _ stays.0 stays.1 none

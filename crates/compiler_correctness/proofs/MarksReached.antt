@@ -17,8 +17,9 @@ use Rattle.machine_model.specs.Machine.{Hart, World, after_event, after_events, 
 use Rattle.machine_model.specs.Frames.{IsWellFormedWorld}
 use Rattle.machine_model.specs.Schedule.{KeepsOn, Steps, with_begun, with_step, with_all_kept, steps_after, steps_along, passes_mark, stores_point}
 use Rattle.machine_model.proofs.Public.{queues_stand, steps_touch}
-use Rattle.compiler_correctness.specs.Translations.{GoOn}
-use Rattle.compiler_correctness.specs.Delays.{is_active_step, active_steps, IsStopped, begun_by}
+use Rattle.machine_model.specs.Executables.{Executable}
+use Rattle.compiler_correctness.specs.Translations.{GoOn, HaveNoCrash}
+use Rattle.compiler_correctness.specs.Delays.{is_active_step, active_steps, IsStopped, begun_by, GetsOnAmong, GetsOnBy}
 use Rattle.crash_simulation.specs.ReleasedSections.{one_if}
 use Rattle.crash_simulation.proofs.Public.{counted_by, at_most_one}
 
@@ -93,7 +94,7 @@ module _ (marks : List (List ℕ)) (program : List (List Slot)) (h : ℕ) where
   still_by w hart Ended e = refl
   still_by w hart phase e = absurd (true≢false (sym e))
 
-  still : (w : World) (s : IsStopped w h) → after_event program w (Step h) ≡ w
+  pub still : (w : World) (s : IsStopped w h) → after_event program w (Step h) ≡ w
   unfolding happens
   still w s = ap (λ (o : Option Hart). (stepped program w h o).0) s.here ∙ still_by w s.hart s.hart.phase s.stopped
 
@@ -118,42 +119,72 @@ module _ (marks : List (List ℕ)) (program : List (List Slot)) (h : ℕ) where
       let next = queues_stand program w event count sound in
       stays_along events (after_event program w event) (count ∙ sym next.1) next.0 on.1 (stays w event sound on.0 s)
 
-  -- ---- A measure that falls
+-- ---- A measure that falls
 
-  -- by the event the hart passes a mark, or stops, or nears one of these
+no_crash_first : (event : Event) (events : List Event) → HaveNoCrash (event ∷ events) → HaveNoCrash (event ∷ []) × HaveNoCrash events
+no_crash_first (Step h) events on = (tt, on)
+no_crash_first (Evict line mask) events on = (tt, on)
+no_crash_first Crash events on = absurd on
+no_crash_first Start events on = (tt, on)
+
+pub go_on_without_crash : (events : List Event) → GoOn events → HaveNoCrash events
+go_on_without_crash [] on = tt
+go_on_without_crash (Step h ∷ events) on = go_on_without_crash events on.1
+go_on_without_crash (Evict line mask ∷ events) on = go_on_without_crash events on.1
+go_on_without_crash (Crash ∷ events) on = absurd on.0
+go_on_without_crash (Start ∷ events) on = absurd on.0
+
+module _ (runs : Executable) (h : ℕ) where
+  -- by the event the hart gets on, or it comes no farther from that
   pub data GetsNearer (Near : World → ℕ → Type 0) (w : World) (event : Event) (left : ℕ) : Type 0 where
-    idles : is_active_step program w event h ≡ false → Near (after_event program w event) left → GetsNearer Near w event left
-    nears : (less : ℕ) → left ≡ suc less → Near (after_event program w event) less → GetsNearer Near w event left
-    begins : event ≡ Step h → passes_mark marks program w h ≡ true → GetsNearer Near w event left
-    stops : IsStopped (after_event program w event) h → GetsNearer Near w event left
-
-  later : (w : World) (event : Event) (events : List Event) (s : Steps) → KeepsOn event →
-      GetsOn marks program h (after_event program w event) (steps_after marks program w event s) events → GetsOn marks program h w s (event ∷ events)
-  later w event events s on (inl more) = let first = after_more w event s on in inl (omega (arith, more, first))
-  later w event events s on (inr stopped) = inr stopped
+    idles : is_active_step runs.program w event h ≡ false → Near (after_event runs.program w event) left → GetsNearer Near w event left
+    nears : (less : ℕ) → left ≡ suc less → Near (after_event runs.program w event) less → GetsNearer Near w event left
+    gets_on : GetsOnBy runs w event h → GetsNearer Near w event left
 
   module _ (Near : World → ℕ → Type 0)
-      (falls : (w : World) (event : Event) (left : ℕ) → KeepsOn event → Near w left → GetsNearer Near w event left) where
-    pub gets_on : (more : List Event) (w : World) (s : Steps) (left : ℕ) → length program ≡ length w.harts → IsWellFormedWorld w →
-        GoOn more → Near w left → left < active_steps program w more h → GetsOn marks program h w s more
-    gets_on [] w s left count sound on near many = absurd (let z : ⊥ = omega (arith, many) in z)
-    gets_on (event ∷ events) w s left count sound on near many =
-        let next = queues_stand program w event count sound in
-        let then_count = count ∙ sym next.1 in
-        elim (falls w event left on.0 near) [
+      (falls : (w : World) (event : Event) (left : ℕ) → HaveNoCrash (event ∷ []) → Near w left → GetsNearer Near w event left) where
+    pub gets_on_along : (more : List Event) (w : World) (left : ℕ) → HaveNoCrash more → Near w left → left < active_steps runs.program w more h →
+        GetsOnAmong runs w more h
+    gets_on_along [] w left on near many = let z : ⊥ = omega (arith, many) in z
+    gets_on_along (event ∷ events) w left on near many =
+        let parts = no_crash_first event events on in
+        elim (falls w event left parts.0 near) [
           | idles idle then_near ↦
               let zero_here = ap one_if idle in
-              later w event events s on.0 (gets_on events (after_event program w event) (steps_after marks program w event s) left then_count next.0 on.1
-              then_near (omega (arith, many, zero_here)))
+              inr (gets_on_along events (after_event runs.program w event) left parts.1 then_near (omega (arith, many, zero_here)))
           | nears less is then_near ↦
-              let one = at_most_one (is_active_step program w event h) in
-              later w event events s on.0 (gets_on events (after_event program w event) (steps_after marks program w event s) less then_count next.0 on.1
-              then_near (omega (arith, many, one, is)))
-          | begins is passes ↦
-              let own = after_own w s passes in
-              let same : begun_by (steps_after marks program w (Step h) s) h ≡ begun_by (steps_after marks program w event s) h =
-              ap (λ (x : Event). begun_by (steps_after marks program w x s) h) (sym is) in
-              let more = along_more events (after_event program w event) (steps_after marks program w event s) on.1 in
-              inl (omega (arith, own, same, more))
-          | stops stopped ↦ inr (stays_along events (after_event program w event) then_count next.0 on.1 stopped)
+              let one = at_most_one (is_active_step runs.program w event h) in
+              inr (gets_on_along events (after_event runs.program w event) less parts.1 then_near (omega (arith, many, one, is)))
+          | gets_on by ↦ inl by
         ]
+
+  -- ---- While the life goes on
+
+  -- a hart that gets on has begun more steps in the end, or has stopped
+  begun_by_event : (event : Event) (events : List Event) (w : World) (s : Steps) → length runs.program ≡ length w.harts → IsWellFormedWorld w →
+      KeepsOn event → GoOn events → GetsOnBy runs w event h → GetsOn runs.marks runs.program h w s (event ∷ events)
+  begun_by_event event events w s count sound keeps on by =
+      let program = runs.program in
+      let next = queues_stand program w event count sound in
+      elim by.gets_on [
+        | inl passes ↦
+            let own = after_own runs.marks program h w s passes in
+            let same : begun_by (steps_after runs.marks program w (Step h) s) h ≡ begun_by (steps_after runs.marks program w event s) h =
+            ap (λ (x : Event). begun_by (steps_after runs.marks program w x s) h) (sym by.is) in
+            let more = along_more runs.marks program h events (after_event program w event) (steps_after runs.marks program w event s) on in
+            inl (omega (arith, own, same, more))
+        | inr stopped ↦ inr (stays_along runs.marks program h events (after_event program w event) (count ∙ sym next.1) next.0 on stopped)
+      ]
+
+  pub begun_among : (more : List Event) (w : World) (s : Steps) → length runs.program ≡ length w.harts → IsWellFormedWorld w → GoOn more →
+      GetsOnAmong runs w more h → GetsOn runs.marks runs.program h w s more
+  begun_among [] w s count sound on among = absurd among
+  begun_among (event ∷ events) w s count sound on (inl by) = begun_by_event event events w s count sound on.0 on.1 by
+  begun_among (event ∷ events) w s count sound on (inr among) =
+      let next = queues_stand runs.program w event count sound in
+      let later =
+      begun_among events (after_event runs.program w event) (steps_after runs.marks runs.program w event s) (count ∙ sym next.1) next.0 on.1 among in
+      elim later [
+        | inl more ↦ let first = after_more runs.marks runs.program h w event s on.0 in inl (omega (arith, more, first))
+        | inr stopped ↦ inr stopped
+      ]

@@ -31,8 +31,8 @@ use Rattle.thread_runs.specs.Laws.{MarksPass}
 use Rattle.recovered_threads.specs.RecoveryStates.{Gathers}
 use Rattle.recovered_threads.proofs.Public.{logs_have_locks, locks_are_held, records_are_apart, holds_none_is, none_if, points_have_locks}
 use Rattle.crash_simulation.specs.AccountRelation.{SimulatesLives, MachinesResume, first_beginning}
-use Rattle.compiler_correctness.specs.Translations.{Translation, world, source, source_at}
-use Rattle.compiler_correctness.specs.Compilation.{ThreadHolds, HasJustUnlocked, HoldsAsThread, IsOn, IsOutside, HasEnded}
+use Rattle.compiler_correctness.specs.Translations.{source, source_at}
+use Rattle.compiler_correctness.specs.Compilation.{AreRecords, ThreadHolds, HasJustUnlocked, HoldsAsThread, IsOn, IsOutside, HasEnded}
 use Rattle.machine_model.specs.Machine.{has_stopped}
 use Rattle.compiler_correctness.specs.Laws.{translation_of, MachinesRecord, MachinesAreWhole}
 use Rattle.compiler_correctness.proofs.LockCalls.{takes_as}
@@ -209,26 +209,26 @@ module _ (y : System) (s : IsSystem y) (w : World) (account : Steps) {r : ℕ �
       subst (λ (hs : List (Option ℕ)). (has_lock (record_of w.log w.words h) lock ≡ true) ↔ (slice_get hs lock ≡ Some (Some h)))
       (kept_holders y s w account resumes) (record_held y s w stands h below lock)
 
+pub records_at : MarksPass → (y : System) (s : IsSystem y) (w : World) (account : Steps) {r : ℕ → ℕ} →
+    SimulatesLives y s (first_beginning y) w account r → AreRecords (translation_of y) w account
+records_at marks y s w account resumes = record {
+  kept = kept_runs y s w account resumes;
+  now_runs = now_runs y s w account resumes;
+  each = λ h hart there.
+      let under = below y s w account resumes h hart there in
+      record {
+        locks_agree = λ on.
+            agree y s w account resumes h hart there _ (now_is y s w account resumes) marks (last_unlocked y s w account resumes h hart there) on;
+        record_is = λ lock. record_is y s w account resumes h hart there lock;
+        apart = λ g lock gb other. records_apart y s w resumes.is.stands g h lock (omega (arith, gb, s.count)) under other;
+        takes = λ is. takes_move y s w h resumes.is.stands (record { hart = hart; here = there; phase_is = is });
+        live_point = live_names y s w resumes.is.stands h under;
+        durable_point_names = durable_names y s w resumes.is.stands h under;
+      };
+}
+
 pub machines_record : MarksPass → MachinesResume → MachinesRecord
-machines_record marks machines y s events =
-    let resumes = machines y s events in
-    let c : Translation = translation_of y in
-    let w : World = world c events in
-    record {
-      kept = kept_runs y s _ _ resumes;
-      now_runs = now_runs y s _ _ resumes;
-      each = λ h hart there.
-          let under = below y s _ _ resumes h hart there in
-          record {
-            locks_agree = λ on.
-                agree y s _ _ resumes h hart there _ (now_is y s _ _ resumes) marks (last_unlocked y s _ _ resumes h hart there) on;
-            record_is = λ lock. record_is y s _ _ resumes h hart there lock;
-            apart = λ g lock gb other. records_apart y s _ resumes.is.stands g h lock (omega (arith, gb, s.count)) under other;
-            takes = λ is. takes_move y s w h resumes.is.stands (record { hart = hart; here = there; phase_is = is });
-            live_point = live_names y s _ resumes.is.stands h under;
-            durable_point_names = durable_names y s _ resumes.is.stands h under;
-          };
-    }
+machines_record marks machines y s events = records_at marks y s _ _ (machines y s events)
 
 -- ---- Between sections there is no point
 

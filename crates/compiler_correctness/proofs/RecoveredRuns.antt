@@ -1,14 +1,14 @@
 -- A machine that begins with words whose records describe an origin runs on, and leaves what the source leaves from there.
 use Rattle.std.proofs.Common.{◌≡◌, ◌++◌, length, ap, sym, ◌∙◌}
 use Rattle.c_tree.specs.Source.{State, is_between}
-use Rattle.machine_model.specs.Schedule.{LifeSchedules, first_steps, kept_lives}
+use Rattle.machine_model.specs.Schedule.{LifeSchedules, kept_lives}
 use Rattle.thread_runs.specs.Laws.{FragmentsGoOn}
 use Rattle.crash_simulation.specs.Laws.{EventsStand, NoneIsStuck, TakesMove}
 use Rattle.crash_simulation.specs.InstructionSteps.{FragmentsStep, CoresStep}
 use Rattle.crash_simulation.specs.AccountRelation.{Beginning, beginning_after}
 use Rattle.crash_simulation.specs.RecoveredWords.{RecoveredAreCounted, RecoveredWordsSimulate}
 use Rattle.crash_simulation.proofs.Public.{resumed}
-use Rattle.compiler_correctness.specs.Images.{first_from, steps_from}
+use Rattle.compiler_correctness.specs.Images.{steps_from}
 use Rattle.compiler_correctness.specs.Laws.{RecoveredWordsRunOn, RecoveredWordsSettle, translation_of}
 use Rattle.compiler_correctness.proofs.BoundedDelay.{delays}
 use Rattle.compiler_correctness.proofs.ImageWords.{stands_along}
@@ -21,8 +21,7 @@ recovered_words_run_on stuck takes stand fragments_step cores_step law simulate 
     record {
       never_stuck = λ events h cause. stuck y s _ (stands_along stand y s events _ begin) h cause;
       takes = λ events h i. takes y s _ h (stands_along stand y s events _ begin) i;
-      delays = λ events more h. delays fragments_step cores_step law y s h stand (first_from (translation_of y) image)
-          (first_steps (length y.runs.program) image.kept) begin events more;
+      delays = λ events more h. delays fragments_step cores_step law y s h _ (stands_along stand y s events _ begin) more;
     }
 
 pub recovered_words_settle : RecoveredAreCounted → RecoveredWordsSettle

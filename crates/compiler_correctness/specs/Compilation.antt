@@ -13,11 +13,11 @@ use Rattle.source_machine.specs.Mutexes.{locks}
 use Rattle.machine_model.specs.declared.phase.Phase.TheVariants.{Take, Run, Ended}
 use Rattle.machine_model.specs.Executables.{first_world}
 use Rattle.machine_model.specs.Machine.{World, Hart, has_stopped, after_event, reply_to, live_at, durable_point, resume_of, record_of, is_settled}
-use Rattle.machine_model.specs.Schedule.{LifeSchedules, all_lives, begins_life, schedules, released_count}
+use Rattle.machine_model.specs.Schedule.{LifeSchedules, Steps, all_lives, begins_life, schedules, released_count}
 use Rattle.hart_runs.specs.Calls.{IsAtCall, lock_asked}
 use Rattle.recovery_semantics.specs.Laws.{LastUnlocks}
 use Rattle.variable_words.specs.Variables.{live_variables, durable_variables}
-use Rattle.compiler_correctness.specs.Translations.{Translation, world, steps, begun, now, source, source_at, IsRunnable, resumes_of}
+use Rattle.compiler_correctness.specs.Translations.{Translation, world, steps, begun_lives, now, now_lives, source, source_at, IsRunnable, resumes_of}
 
 -- ---- Settled machines
 
@@ -99,10 +99,10 @@ IsOn hart = (hart.phase ≡ Run) ⊎ (hart.phase ≡ Ended)
 -- ---- Lockstep, in a life without a crash
 
 -- the source can be stepped by all steps that have begun: memory has the variables that it has then, and harts hold what their threads do
-pub record IsInStep (c : Translation) (events : List Event) : Type 0 where
-  pub runs : IsRunnable c (all_lives (begun c events))
-  pub variables : live_variables (world c events).words c.flat.variables ≡ (source c (all_lives (begun c events))).variables
-  pub locks_agree : (h : ℕ) (hart : Hart) → slice_get (world c events).harts h ≡ Some hart → IsOn hart → HoldsAsThread c (world c events) (begun c events) h
+pub record IsInStep (c : Translation) (w : World) (s : Steps) : Type 0 where
+  pub runs : IsRunnable c (all_lives (begun_lives s))
+  pub variables : live_variables w.words c.flat.variables ≡ (source c (all_lives (begun_lives s))).variables
+  pub locks_agree : (h : ℕ) (hart : Hart) → slice_get w.harts h ≡ Some hart → IsOn hart → HoldsAsThread c w (begun_lives s) h
 
 -- ---- Records, and where recovery resumes
 
@@ -110,27 +110,26 @@ pub record IsInStep (c : Translation) (events : List Event) : Type 0 where
 abbrev pub NamesResume : Translation → (h point : ℕ) → Type 0
 NamesResume c h point = point ≢ 0 → Contains (resumes_of c h) (resume_of point)
 
--- a hart of a machine at a moment
-pub record IsRecorded (c : Translation) (events : List Event) (h : ℕ) (hart : Hart) : Type 0 where
+-- a hart of a machine at a moment, whose steps are accounted so
+pub record IsRecorded (c : Translation) (w : World) (s : Steps) (h : ℕ) (hart : Hart) : Type 0 where
   -- what it holds that executes instructions, in recovery too, or has ended
-  pub locks_agree : IsOn hart → HoldsAsThread c (world c events) (now c events) h
+  pub locks_agree : IsOn hart → HoldsAsThread c w (now_lives s) h
   -- the hart's record is the set that its thread holds by the kept schedules
-  pub record_is : (lock : ℕ) → (has_lock (record_of (world c events).log (world c events).words h) lock ≡ true)
-      ↔ ThreadHolds (source c (schedules (steps c events))) h lock
+  pub record_is : (lock : ℕ) → (has_lock (record_of w.log w.words h) lock ≡ true) ↔ ThreadHolds (source c (schedules s)) h lock
   -- the hart's record shares no lock with another's
-  pub apart : (g lock : ℕ) → g < length c.runs.program → g ≢ h → has_lock (record_of (world c events).log (world c events).words h) lock ≡ true →
-      has_lock (record_of (world c events).log (world c events).words g) lock ≡ false
+  pub apart : (g lock : ℕ) → g < length c.runs.program → g ≢ h → has_lock (record_of w.log w.words h) lock ≡ true →
+      has_lock (record_of w.log w.words g) lock ≡ false
   -- in recovery a hart takes its locks and never waits for one
-  pub takes : hart.phase ≡ Take → reply_to c.runs.program (world c events) (Step h) ≡ Moved
+  pub takes : hart.phase ≡ Take → reply_to c.runs.program w (Step h) ≡ Moved
   -- the hart's points, the live and the durable one, name resume addresses
-  pub live_point : NamesResume c h (live_at (world c events).words (point_at (world c events).log h))
-  pub durable_point_names : NamesResume c h (durable_point (world c events).log (world c events).words h)
+  pub live_point : NamesResume c h (live_at w.words (point_at w.log h))
+  pub durable_point_names : NamesResume c h (durable_point w.log w.words h)
 
-pub record AreRecords (c : Translation) (events : List Event) : Type 0 where
+pub record AreRecords (c : Translation) (w : World) (s : Steps) : Type 0 where
   -- the source can be stepped by all kept steps, and after them by those begun since
-  pub kept : IsRunnable c (schedules (steps c events))
-  pub now_runs : IsRunnable c (all_lives (now c events))
-  pub each : (h : ℕ) (hart : Hart) → slice_get (world c events).harts h ≡ Some hart → IsRecorded c events h hart
+  pub kept : IsRunnable c (schedules s)
+  pub now_runs : IsRunnable c (all_lives (now_lives s))
+  pub each : (h : ℕ) (hart : Hart) → slice_get w.harts h ≡ Some hart → IsRecorded c w s h hart
 
 -- ---- No hart is ever stuck
 

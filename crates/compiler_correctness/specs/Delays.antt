@@ -1,4 +1,4 @@
--- How soon a hart that executes instructions begins the next step of its thread.
+-- How soon a hart that executes instructions begins the next step of its thread, or stops.
 use Rattle.std.specs.Prelude.{◌≡◌, ◌⊎◌, ℕ, ◌+◌, ◌*◌, ◌<◌, ◌≤◌, List, [], ◌∷◌, ◌++◌, length, slice_get, Some, None, Bool, true, false, not, ◌==◌, ◌&&◌}
 use Rattle.std.specs.Prelude.{if◌then◌else◌, filter}
 use Rattle.machine_events.specs.declared.event.Event.{Event}
@@ -7,9 +7,12 @@ use Rattle.machine_events.specs.declared.event.Reply.{Reply}
 use Rattle.machine_events.specs.declared.event.Reply.TheVariants.{Moved, Drained, Waits, Barrier, Still, Stuck, Device}
 use Rattle.rv64_isa.specs.declared.object.Slot.{Slot}
 use Rattle.rv64_isa.specs.Programs.{code_of}
+use Rattle.machine_model.specs.declared.phase.Phase.TheVariants.{Run}
+use Rattle.machine_model.specs.Executables.{Executable}
 use Rattle.machine_model.specs.Machine.{Hart, World, after_event, has_stopped, reply_to}
-use Rattle.machine_model.specs.Schedule.{Steps, is_running}
-use Rattle.compiler_correctness.specs.Translations.{Translation, GoOn, world, steps}
+use Rattle.machine_model.specs.Schedule.{Steps, is_running, passes_mark}
+use Rattle.hart_runs.specs.Calls.{IsInPhase}
+use Rattle.compiler_correctness.specs.Translations.{HaveNoCrash, Translation, world, steps}
 
 abbrev pub has_waited : Reply → Bool
 has_waited (Waits lock holder) = true
@@ -50,11 +53,22 @@ begun_by s h = length (filter (λ g. g == h) s.begun)
 abbrev pub GetsOn : Translation → (events more : List Event) → (h : ℕ) → Type 0
 GetsOn c events more h = (begun_by (steps c events) h < begun_by (steps c (events ++ more)) h) ⊎ IsStopped (world c (events ++ more)) h
 
--- the steps within which a hart begins a step more: twice the words of its code, and 18
+-- the event is a step of hart h, which executes instructions: by it the hart begins a step of its thread, or it has stopped after it
+pub record GetsOnBy (runs : Executable) (w : World) (event : Event) (h : ℕ) : Type 0 where
+  pub is : event ≡ Step h
+  pub executes : IsInPhase w h Run
+  pub gets_on : (passes_mark runs.marks runs.program w h ≡ true) ⊎ IsStopped (after_event runs.program w event) h
+
+-- it does so by one of the events
+abbrev pub GetsOnAmong : Executable → World → List Event → (h : ℕ) → Type 0
+GetsOnAmong runs w [] h = ⊥
+GetsOnAmong runs w (event ∷ events) h = GetsOnBy runs w event h ⊎ GetsOnAmong runs (after_event runs.program w event) events h
+
+-- the steps within which a hart begins one of its thread, or stops: twice the words of its code, and 18
 abbrev pub delay : Translation → (h : ℕ) → ℕ
 delay c h = 2 * length (code_of c.runs.program h) + 18
 
--- delays are bounded whatever other harts do, and whatever is evicted, as long as the life goes on
-abbrev pub AreDelaysBounded : Translation → List Event → Type 0
-AreDelaysBounded c events = (more : List Event) (h : ℕ) → GoOn more → delay c h ≤ active_steps c.runs.program (world c events) more h →
-    GetsOn c events more h
+-- From the world on delays are bounded, whatever other harts do, whatever is evicted, and whichever lives begin, as long as power stays on: by one of any so
+-- many such steps the hart begins one of its thread, or stops. A life that begins finds each hart stopped.
+abbrev pub AreDelaysBounded : Translation → World → Type 0
+AreDelaysBounded c w = (more : List Event) (h : ℕ) → HaveNoCrash more → delay c h ≤ active_steps c.runs.program w more h → GetsOnAmong c.runs w more h

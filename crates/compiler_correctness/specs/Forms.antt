@@ -34,7 +34,8 @@ use Rattle.thread_code.specs.Plans.{home_of_colour, language_of}
 use Rattle.expr_code.specs.declared.home.Home.{Home}
 use Rattle.expr_code.specs.declared.home.Home.TheVariants.{InRegister}
 use Rattle.expr_code.specs.EvaluationCode.{home_of, HomeCarries}
-use Rattle.log_schemes.specs.declared.log.Log.TheVariants.{V1}
+use Rattle.log_schemes.specs.declared.keeping.Keeping.TheVariants.{Masked}
+use Rattle.log_schemes.specs.Schemes.{keeping_of}
 
 -- ---- The code of a thread's nodes
 
@@ -171,7 +172,7 @@ pub record HasThreadForm (c : Translation) (colours : Colouring) (thread : ℕ) 
 
 pub record HasForm (c : Translation) : Type 0 where
   -- where threads log with masks no mutex of the source is in an array
-  pub single : c.runs.log ≡ V1 → AllByRecursion IsSingle c.flat.mutexes
+  pub single : keeping_of c.runs.log ≡ Masked → AllByRecursion IsSingle c.flat.mutexes
   -- the initial bytes are the source's, and there is a lock for each mutex
   pub initial : AreInitial (map shape_of c.flat.variables) (map initial_numbers c.flat.variables) c.runs.initial
   pub mutexes : c.runs.mutexes ≡ length c.flat.mutexes

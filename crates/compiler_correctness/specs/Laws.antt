@@ -7,11 +7,12 @@ use Rattle.region_cutter.specs.FewestCuts.{AreFewestCuts}
 use Rattle.region_attempts.specs.Origins.{Origin}
 use Rattle.crash_simulation.specs.Systems.{System, IsSystem, flat_of}
 use Rattle.crash_simulation.specs.RecoveredWords.{IsRecoveredFrom}
-use Rattle.compiler_correctness.specs.Translations.{Translation, world}
+use Rattle.compiler_correctness.specs.Translations.{Translation, steps, world}
 use Rattle.compiler_correctness.specs.Delays.{AreDelaysBounded}
 use Rattle.compiler_correctness.specs.Compilation.{IsSettledAsKept, KeptScheduleGrows, AreSectionsKept, AreRecords, AreWhole, IsInStep, NeverStuck}
 use Rattle.compiler_correctness.specs.Forms.{HasForm}
 use Rattle.compiler_correctness.specs.Images.{Image, image_of, file_of, image_in, IsCrashed, IsResumedAsKept, StayBetween, IsInFile}
+use Rattle.compiler_correctness.specs.SettledImages.{IsCarriedOn, IsSettledImage}
 use Rattle.compiler_correctness.specs.WordRuns.{RunsOn, SettlesFrom}
 use Rattle.compiler_correctness.specs.Compilations.{IsCompilation}
 
@@ -30,7 +31,8 @@ abbrev pub SectionsAreKept : Type 0
 SectionsAreKept = (y : System) → IsSystem y → (events : List Event) → AreSectionsKept (translation_of y) events
 
 abbrev pub MachinesRecord : Type 0
-MachinesRecord = (y : System) → IsSystem y → (events : List Event) → AreRecords (translation_of y) events
+MachinesRecord = (y : System) → IsSystem y → (events : List Event) →
+    AreRecords (translation_of y) (world (translation_of y) events) (steps (translation_of y) events)
 
 abbrev pub MachinesAreWhole : Type 0
 MachinesAreWhole = (y : System) → IsSystem y → (events : List Event) → AreWhole (translation_of y) events
@@ -39,11 +41,13 @@ abbrev pub HartsNeverStick : Type 0
 HartsNeverStick = (y : System) → IsSystem y → (events : List Event) → NeverStuck (translation_of y) events
 
 abbrev pub DelaysAreBounded : Type 0
-DelaysAreBounded = (y : System) → IsSystem y → (events : List Event) → AreDelaysBounded (translation_of y) events
+DelaysAreBounded = (y : System) → IsSystem y → (events : List Event) →
+    AreDelaysBounded (translation_of y) (world (translation_of y) events)
 
 -- in a life without a crash, machines keep step with the source
 abbrev pub MachinesKeepStep : Type 0
-MachinesKeepStep = (y : System) → IsSystem y → (events : List Event) → (world (translation_of y) events).recovering ≡ false → IsInStep (translation_of y) events
+MachinesKeepStep = (y : System) → IsSystem y → (events : List Event) → (world (translation_of y) events).recovering ≡ false →
+    IsInStep (translation_of y) (world (translation_of y) events) (steps (translation_of y) events)
 
 -- compiled code has its form, where no boundary that stands by choice can be taken away, and in straight code they are the fewest
 abbrev pub CompiledCodeHasForm : Type 0
@@ -67,6 +71,11 @@ RecoveredWordsRunOn = (y : System) (s : IsSystem y) (o : Origin (flat_of y)) (im
 abbrev pub RecoveredWordsSettle : Type 0
 RecoveredWordsSettle = (y : System) (s : IsSystem y) (o : Origin (flat_of y)) (image : Image) → IsRecoveredFrom y s o image.words → (events : List Event) →
     SettlesFrom (translation_of y) image o.source events
+
+-- and where the image is settled, whoever wrote it, lives that go on from it keep what those keep that began at the source's start
+abbrev pub SettledImagesGoOn : Type 0
+SettledImagesGoOn = (y : System) (s : IsSystem y) (o : Origin (flat_of y)) (image : Image) → IsRecoveredFrom y s o image.words →
+    IsSettledImage (translation_of y) image → (events : List Event) → IsCarriedOn (translation_of y) image events
 
 -- no hart stores between the variables and the logs
 abbrev pub WordsBetweenStay : Type 0

@@ -4,5 +4,6 @@ pub mod Forms
 pub mod Images
 pub mod Delays
 pub mod WordRuns
+pub mod SettledImages
 pub mod Compilations
 pub mod Laws

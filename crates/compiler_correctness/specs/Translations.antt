@@ -1,6 +1,7 @@
 -- What a compiler makes of a flat form, and what events make of that.
 use Rattle.std.specs.Prelude.{◌≡◌, ℕ, List, [], ◌∷◌, ◌++◌, length, slice_index_or, true}
 use Rattle.machine_events.specs.declared.event.Event.{Event}
+use Rattle.machine_events.specs.declared.event.Event.TheVariants.{Step, Evict, Crash, Start}
 use Rattle.c_tree.specs.Flats as f
 use Rattle.c_tree.specs.Source as m
 use Rattle.machine_model.specs.declared.object.Object.{Object}
@@ -28,6 +29,22 @@ abbrev pub GoOn : List Event → Type 0
 GoOn [] = Unit {0}
 GoOn (event ∷ events) = KeepsOn event × GoOn events
 
+-- power stays on by them
+abbrev pub HaveNoCrash : List Event → Type 0
+HaveNoCrash [] = Unit {0}
+HaveNoCrash (Step h ∷ events) = HaveNoCrash events
+HaveNoCrash (Evict line mask ∷ events) = HaveNoCrash events
+HaveNoCrash (Crash ∷ events) = ⊥
+HaveNoCrash (Start ∷ events) = HaveNoCrash events
+
+-- the kept schedules of the lives before, and all steps that are begun in this one
+abbrev pub begun_lives : Steps → LifeSchedules
+begun_lives s = record { earlier = s.earlier; schedule = s.begun }
+
+-- the kept schedules, the last one followed by the steps begun since this life's start or the last crash and not kept
+abbrev pub now_lives : Steps → LifeSchedules
+now_lives s = record { earlier = s.earlier; schedule = s.kept ++ s.pending }
+
 module _ (c : Translation) where
   abbrev pub marks_of : (thread : ℕ) → List ℕ
   marks_of thread = slice_index_or c.runs.marks thread []
@@ -43,13 +60,9 @@ module _ (c : Translation) where
   abbrev pub steps : List Event → Steps
   steps events = steps_along c.runs.marks c.runs.program (first_world c.runs) events (first_steps (length c.runs.program) (only_life []))
 
-  -- the kept schedules of the lives before, and all steps that are begun in this one
-  abbrev pub begun : List Event → LifeSchedules
-  begun events = record { earlier = (steps events).earlier; schedule = (steps events).begun }
-
-  -- the kept schedules, the last one followed by the steps begun since this life's start or the last crash and not kept
+  -- all steps that are kept then, and after them those that are begun and not kept
   abbrev pub now : List Event → LifeSchedules
-  now events = record { earlier = (steps events).earlier; schedule = (steps events).kept ++ (steps events).pending }
+  now events = now_lives (steps events)
 
   -- the source, run by the schedules one after another, its threads begun anew at each
   abbrev pub source : (schedules : List (List ℕ)) → m.State

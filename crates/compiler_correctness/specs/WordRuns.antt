@@ -1,5 +1,5 @@
 -- A machine that begins with an image's words, whoever left them, and runs on.
-use Rattle.std.specs.Prelude.{◌≡◌, ◌≢◌, ◌⊎◌, ℕ, ◌<◌, ◌≤◌, List, [], ◌∷◌, ◌++◌, true}
+use Rattle.std.specs.Prelude.{◌≡◌, ◌≢◌, ℕ, List, [], ◌∷◌, ◌++◌, true}
 use Rattle.machine_events.specs.declared.event.Event.{Event}
 use Rattle.machine_events.specs.declared.event.Event.TheVariants.{Step}
 use Rattle.machine_events.specs.declared.event.Reply.TheVariants.{Moved, Stuck}
@@ -11,9 +11,9 @@ use Rattle.machine_model.specs.Machine.{is_settled, reply_to}
 use Rattle.machine_model.specs.Schedule.{LifeSchedules, all_lives, kept_lives}
 use Rattle.hart_runs.specs.Calls.{IsInPhase}
 use Rattle.variable_words.specs.Variables.{durable_variables}
-use Rattle.compiler_correctness.specs.Translations.{Translation, GoOn}
+use Rattle.compiler_correctness.specs.Translations.{Translation}
 use Rattle.compiler_correctness.specs.Images.{Image, world_from, steps_from}
-use Rattle.compiler_correctness.specs.Delays.{active_steps, begun_by, delay, IsStopped}
+use Rattle.compiler_correctness.specs.Delays.{AreDelaysBounded}
 
 -- schedules of lives behind those that were kept before: the first of these lives goes on with the last of those
 abbrev pub behind : LifeSchedules → (earlier : List (List ℕ)) → (schedule : List ℕ) → LifeSchedules
@@ -21,18 +21,12 @@ behind before [] schedule = record { earlier = before.earlier; schedule = before
 behind before (first ∷ rest) schedule = record { earlier = before.earlier ++ (before.schedule ++ first) ∷ rest; schedule = schedule }
 
 module _ (c : Translation) (image : Image) where
-  -- by the later events the hart begins one step more, or has stopped
-  abbrev pub GetsOnFrom : (events more : List Event) → (h : ℕ) → Type 0
-  GetsOnFrom events more h = (begun_by (steps_from c image events) h < begun_by (steps_from c image (events ++ more)) h)
-      ⊎ IsStopped (world_from c image (events ++ more)) h
-
-  -- whatever happens, no hart is ever stuck, none that takes its locks in recovery waits for one, and delays are bounded while the life goes on
+  -- whatever happens, no hart is ever stuck, none that takes its locks in recovery waits for one, and delays are bounded while power stays on
   pub record RunsOn : Type 0 where
     pub never_stuck : (events : List Event) (h : ℕ) (cause : Cause) → reply_to c.runs.program (world_from c image events) (Step h) ≢ Stuck cause
     pub takes : (events : List Event) (h : ℕ) → IsInPhase (world_from c image events) h Take →
         reply_to c.runs.program (world_from c image events) (Step h) ≡ Moved
-    pub delays : (events more : List Event) (h : ℕ) → GoOn more →
-        delay c h ≤ active_steps c.runs.program (world_from c image events) more h → GetsOnFrom events more h
+    pub delays : (events : List Event) → AreDelaysBounded c (world_from c image events)
 
   -- the source, from a state on, can be stepped by all steps that are kept since, life by life; and where all harts stand between sections, so do all
   -- threads after these, and the durable variables are theirs

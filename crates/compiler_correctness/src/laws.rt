@@ -2,7 +2,7 @@
 ghost use Rattle.compiler_correctness.specs.Laws.{CompiledCodeHasForm, DelaysAreBounded, FilesAreImages, FilesAreResumed, HartsNeverStick};
 ghost use Rattle.compiler_correctness.specs.Laws.{ImagesAreCrashes, ImagesAreResumed, KeptStepsGrow, MachinesAreWhole, MachinesKeepStep};
 ghost use Rattle.compiler_correctness.specs.Laws.{MachinesRecord, RecoveredWordsRunOn, RecoveredWordsSettle, SectionsAreKept, SettledMachinesAreKept};
-ghost use Rattle.compiler_correctness.specs.Laws.{SystemsAreCompilations, WordsBetweenStay};
+ghost use Rattle.compiler_correctness.specs.Laws.{SettledImagesGoOn, SystemsAreCompilations, WordsBetweenStay};
 
 use crash_simulation::laws::{
     cores_step, events_stand, fragments_step, machines_resume, none_is_stuck as simulating_is_free,
@@ -59,8 +59,9 @@ pub fn harts_never_stick()
     simulating_is_free();
 }
 
-/// A hart that executes instructions soon begins the next step of its thread: by as many of its steps that wait for no lock as twice the words of its code, and
-/// 18, it has begun one or has stopped, whatever other harts do and whatever is evicted in between.
+/// A hart that executes instructions soon begins the next step of its thread, or stops: among as many of its steps that wait for no lock as twice the words of
+/// its code, and 18, is one by which it begins one or after which it has stopped, whatever other harts do, whatever is evicted and whichever lives begin in
+/// between, as long as power stays on.
 pub fn delays_are_bounded()
     ensures { DelaysAreBounded }
 {
@@ -107,7 +108,7 @@ pub fn images_are_resumed()
 
 /// A machine that begins with words whose records describe a state of the source runs on, whoever left them and whether a run reaches that state or not:
 /// no hart is ever stuck, none that takes its locks in recovery waits for one, and one that waits for no lock begins its next step, or has stopped, within
-/// twice its code's words and 18 of its steps while the life goes on.
+/// twice its code's words and 18 of its steps while power stays on.
 pub fn recovered_words_run_on()
     ensures { RecoveredWordsRunOn }
 {
@@ -125,6 +126,20 @@ pub fn recovered_words_settle()
     ensures { RecoveredWordsSettle }
 {
     recovered_are_counted();
+}
+
+/// An image is settled in which no thread has a point, and whose variables are what the source has after the schedules, with every thread between sections,
+/// whoever wrote it. Lives that go on from it keep what those keep that began at the source's start: in one without a crash machine and source keep step; the
+/// source can be stepped by all kept steps, those of the image first, and after them by those begun since; a hart's record is what its thread holds by them;
+/// and where all harts stand between sections, so do all threads, and durable variables are those that the source has then.
+pub fn settled_images_go_on()
+    ensures { SettledImagesGoOn }
+{
+    cores_step();
+    marks_pass();
+    fragments_go_on();
+    recovered_are_counted();
+    fragments_step();
 }
 
 /// Whatever happens, no hart stores between the variables and the logs: those words are 0, durably.

@@ -1,29 +1,26 @@
 -- How many of its steps a hart is from having entered recovery, and that each event leaves it no more, and a round one less.
-use Rattle.std.proofs.Common.{◌≡◌, ◌≢◌, ◌⊎◌, inl, inr, refl, ℕ, zero, suc, ◌+◌, ◌-◌, ◌*◌, ◌/◌, ◌%◌, ◌<◌, ◌≤◌, List, [], ◌∷◌, ◌++◌, length, map, set}
+use Rattle.std.proofs.Common.{◌≡◌, ◌≢◌, inl, inr, refl, ℕ, zero, suc, ◌+◌, ◌*◌, ◌/◌, ◌%◌, ◌<◌, ◌≤◌, List, [], ◌∷◌, length, map, set}
 use Rattle.std.proofs.Common.{ap, sym, ◌∙◌, subst, arith, cond, Bool, true, false, Option, Some, None}
 use Rattle.std.specs.Prelude.{slice_get, ◌==◌}
-use Rattle.std.proofs.lemmas.Bool.{cases_eq, cases_Bool, eqb-true}
-use Rattle.std.proofs.lemmas.Option.{slice_get_within}
+use Rattle.std.proofs.lemmas.Bool.{cases_eq}
 use Rattle.std.proofs.Math.ListN.{length-set}
-use Rattle.log_schemes.specs.declared.log.Log.{Log}
 use Rattle.machine_events.specs.declared.event.Event.{Event}
 use Rattle.machine_events.specs.declared.event.Event.TheVariants.{Step, Evict, Crash, Start}
-use Rattle.machine_events.specs.declared.event.Reply.{Reply}
-use Rattle.machine_events.specs.declared.event.Reply.TheVariants.{Moved, Waits}
+use Rattle.machine_events.specs.declared.event.Reply.TheVariants.{Moved, Waits, Still}
+use Rattle.machine_events.specs.Cores.{is_idle}
 use Rattle.ido_base.specs.Words.{Word, word_of, word_at, last_position, written_back, evicted_from, evicted}
 use Rattle.rv64_isa.specs.declared.object.Slot.{Slot}
 use Rattle.machine_model.specs.declared.phase.Phase.{Phase}
 use Rattle.machine_model.specs.declared.phase.Phase.TheVariants.{Take, Wait, Resume, Run, Done, Ended}
-use Rattle.machine_model.specs.Machine.{Hart, World, Outcome, with_hart, with_holder, record_of, is_taking, happens, stepped, after_event, after_events, reply_to}
-use Rattle.machine_model.specs.Machine.{after_crash_of, phase_after_crash, durable_point, fresh_hart, numbers_from, started_anew, anew}
+use Rattle.machine_model.specs.Machine.{Hart, World, Outcome, with_hart, record_of, is_taking, happens, stepped, after_event, reply_to}
+use Rattle.machine_model.specs.Machine.{started_anew}
 use Rattle.machine_model.proofs.Public.{get-set_same, get-set_other, after_start, anew_found, anew_length}
-use Rattle.eviction_laws.specs.Evictions.{is_entering, NoneEnters}
+use Rattle.eviction_laws.specs.Evictions.{is_entering}
 use Rattle.eviction_laws.proofs.Public.{GoesAlike, alike_refl, step_alike}
-use Rattle.hart_runs.specs.Calls.{IsInPhase, IsRecorded, TakesLocks, AwaitsOthers, ResumesHart}
-use Rattle.hart_runs.specs.Laws.{own_steps, is_step_of}
+use Rattle.hart_runs.specs.Calls.{IsInPhase, TakesLocks, AwaitsOthers}
 use Rattle.hart_runs.proofs.Public.{takes_step, waits_step, resumes_step, stopped_stay}
-use Rattle.crash_bounds.specs.Rounds.{HaveNoCrash, IsRound, HoldRounds, no_more, one_more, KeepsAtMost}
-use Rattle.crash_bounds.proofs.CountedLocks.{count_missing, missing_most, count_stays, count_less}
+use Rattle.crash_bounds.specs.Rounds.{HaveNoCrash}
+use Rattle.crash_bounds.proofs.CountedLocks.{count_missing, count_stays, count_less}
 
 -- ---- How far a hart is
 
@@ -67,7 +64,15 @@ left_none n Run e = refl
 left_none n Done e = refl
 left_none n Ended e = refl
 
-left_out : (n : ℕ) (phase : Phase) → is_entering phase ≡ false → left n phase ≡ 0
+pub taking_enters : (phase : Phase) → is_entering phase ≡ false → is_taking phase ≡ false
+taking_enters Take e = absurd (let never : true ≡ false = e in cc)
+taking_enters Wait e = refl
+taking_enters Resume e = refl
+taking_enters Run e = refl
+taking_enters Done e = refl
+taking_enters Ended e = refl
+
+pub left_out : (n : ℕ) (phase : Phase) → is_entering phase ≡ false → left n phase ≡ 0
 left_out n Take e = absurd (let never : true ≡ false = e in cc)
 left_out n Wait e = absurd (let never : true ≡ false = e in cc)
 left_out n Resume e = absurd (let never : true ≡ false = e in cc)
@@ -127,10 +132,12 @@ pub record Lowers (w v : World) : Type 0 where
   pub lowers : (h most : ℕ) → IsWithin w h most → IsWithin v h most
   pub count : length v.harts ≡ length w.harts
 
--- of a step of hart g: where no hart needs more than so many and one, that hart needs so many at most
-pub record Goes (w v : World) (g : ℕ) : Type 0 where
-  pub is : Lowers w v
-  pub own : (most : ℕ) → ((h : ℕ) → IsWithin w h (suc most)) → IsWithin v g most
+-- of a step of hart g: where no hart needs more than so many and one, that hart needs so many at most; and where the step is no wait, so it is if only that
+-- hart needs no more
+pub record Goes (w : World) (o : Outcome) (g : ℕ) : Type 0 where
+  pub is : Lowers w o.0
+  pub own : (most : ℕ) → ((h : ℕ) → IsWithin w h (suc most)) → IsWithin o.0 g most
+  pub alone : is_idle o.1 ≡ false → (most : ℕ) → IsWithin w g (suc most) → IsWithin o.0 g most
 
 pub stays_lowered : (w : World) → IsEntering w → Lowers w w
 stays_lowered w entering = record { entering = entering; lowers = λ h most within. within; count = refl }
@@ -172,7 +179,7 @@ module _ (w : World) (g : ℕ) (hart : Hart) (here : slice_get w.harts g ≡ Som
   other_within h most ne within other there =
       subst (λ (n : ℕ). left n other.phase ≤ most) (sym (others h ne)) (within other (sym (get-set_other w.harts g h after ne) ∙ there))
 
-  goes_by : IsEntering v → Goes w v g
+  goes_by : IsEntering v → Goes w (v, Moved) g
   unfolding v
   goes_by entering = record {
     is = record {
@@ -185,6 +192,7 @@ module _ (w : World) (g : ℕ) (hart : Hart) (here : slice_get w.harts g ≡ Som
       count = count_is;
     };
     own = λ most within. own_within most (let bound = within g hart here in omega (arith, bound, less));
+    alone = λ busy most within. own_within most (let bound = within hart here in omega (arith, bound, less));
   }
     where
       count_is : length v.harts ≡ length w.harts
@@ -225,11 +233,11 @@ module _ (program : List (List Slot)) (w : World) (entering : IsEntering w) (mov
       left_is : left (missing_of w g) hart.phase ≡ suc (suc (suc (missing_of w g)))
       left_is = ap (left (missing_of w g)) is
 
-      take_by : TakesLocks program w g hart → Goes w (after_event program w (Step g)) g
+      take_by : TakesLocks program w g hart → Goes w (happens program w (Step g)) g
       unfolding v
       take_by (TakesLocks.has_all all does) =
           let less : left (missing_of w g) Wait < left (missing_of w g) hart.phase = omega (arith, left_is) in
-          subst (λ (x : World). Goes w x g) (sym (ap (λ (o : Outcome). o.0) does))
+          subst (λ (o : Outcome). Goes w o g) (sym does)
           (goes_by w g hart here w.holders (record hart { phase = Wait }) (λ h ne. refl) less
           (taking still.fresh (all_set is_gathering true w g hart (record hart { phase = Wait }) here refl still.all)))
       take_by (TakesLocks.takes_one lock r does) =
@@ -237,7 +245,7 @@ module _ (program : List (List Slot)) (w : World) (entering : IsEntering w) (mov
           let after_is = ap (left (count_missing (set w.holders lock (Some g)) (record_of w.log w.words g) g)) is in
           let less : left (count_missing (set w.holders lock (Some g)) (record_of w.log w.words g) g) hart.phase < left (missing_of w g) hart.phase =
           omega (arith, left_is, after_is, fewer) in
-          subst (λ (x : World). Goes w x g) (sym (ap (λ (o : Outcome). o.0) does))
+          subst (λ (o : Outcome). Goes w o g) (sym does)
           (goes_by w g hart here (set w.holders lock (Some g)) hart
           (λ h ne. count_stays w.holders lock r.there g h (λ e. ne (sym e)) (record_of w.log w.words h)) less
           (taking still.fresh (all_set is_gathering true w g hart hart here (still.all g hart here) still.all)))
@@ -260,17 +268,17 @@ module _ (program : List (List Slot)) (w : World) (entering : IsEntering w) (mov
       not_taking Done never = refl
       not_taking Ended never = refl
 
-      wait_by : AwaitsOthers program w g hart → Goes w (after_event program w (Step g)) g
+      wait_by : AwaitsOthers program w g hart → Goes w (happens program w (Step g)) g
       unfolding v
       wait_by (AwaitsOthers.all_have none does) =
           let less : left (missing_of w g) Resume < left (missing_of w g) hart.phase = omega (arith, waiting_is) in
           let all : AllPass is_taking false w = λ h other there.
           not_taking other.phase (λ takes. none h (record { hart = other; here = there; phase_is = takes })) in
-          subst (λ (x : World). Goes w x g) (sym (ap (λ (o : Outcome). o.0) does))
+          subst (λ (o : Outcome). Goes w o g) (sym does)
           (goes_by w g hart here w.holders (record hart { phase = Resume }) (λ h ne. refl) less
           (none_takes (all_set is_taking false w g hart (record hart { phase = Resume }) here refl all)))
       wait_by (AwaitsOthers.one_takes other i does) =
-          subst (λ (x : World). Goes w x g) (sym (ap (λ (o : Outcome). o.0) does)) (record {
+          subst (λ (o : Outcome). Goes w o g) (sym does) (record {
             is = stays_lowered w entering;
             own = λ most within one there.
                 let takes = ap (left (missing_of w other)) i.phase_is in
@@ -278,9 +286,10 @@ module _ (program : List (List Slot)) (w : World) (entering : IsEntering w) (mov
                 let same : Some hart ≡ Some one = sym here ∙ there in
                 let equal : hart ≡ one = cc in
                 subst (λ (x : Hart). left (missing_of w g) x.phase ≤ most) equal (omega (arith, takes, bound, waiting_is));
+            alone = λ busy. absurd (let never : true ≡ false = busy in cc);
           })
 
-    resume_by : hart.phase ≡ Resume → Goes w (after_event program w (Step g)) g
+    resume_by : hart.phase ≡ Resume → Goes w (happens program w (Step g)) g
     unfolding v
     resume_by is =
         let i : IsInPhase w g Resume = in_phase Resume is in
@@ -289,29 +298,22 @@ module _ (program : List (List Slot)) (w : World) (entering : IsEntering w) (mov
         let before = ap (left (missing_of w g)) is in
         let after = ap (left (missing_of w g)) r.runs in
         let less : left (missing_of w g) r.after.phase < left (missing_of w g) hart.phase = omega (arith, before, after) in
-        subst (λ (x : World). Goes w x g) (sym (ap (λ (o : Outcome). o.0) r.does))
+        subst (λ (o : Outcome). Goes w o g) (sym r.does)
         (goes_by w g hart here w.holders r.after (λ h ne. refl) less
         (none_takes (all_set is_taking false w g hart r.after here (ap is_taking r.runs) all)))
 
     -- nothing changes, and the hart has nothing to do
-    idle : after_event program w (Step g) ≡ w → left (missing_of w g) hart.phase ≡ 0 → Goes w (after_event program w (Step g)) g
-    idle same none = subst (λ (x : World). Goes w x g) (sym same) (record {
+    idle : happens program w (Step g) ≡ (w, Still) → left (missing_of w g) hart.phase ≡ 0 → Goes w (happens program w (Step g)) g
+    idle same none = subst (λ (o : Outcome). Goes w o g) (sym same) (record {
       is = stays_lowered w entering;
       own = λ most within one there.
           let found : Some hart ≡ Some one = sym here ∙ there in
           let equal : hart ≡ one = cc in
           subst (λ (x : Hart). left (missing_of w g) x.phase ≤ most) equal (omega (arith, none));
+      alone = λ busy. absurd (let never : true ≡ false = busy in cc);
     })
 
-    taking_enters : (phase : Phase) → is_entering phase ≡ false → is_taking phase ≡ false
-    taking_enters Take e = absurd (let never : true ≡ false = e in cc)
-    taking_enters Wait e = refl
-    taking_enters Resume e = refl
-    taking_enters Run e = refl
-    taking_enters Done e = refl
-    taking_enters Ended e = refl
-
-    run_by : hart.phase ≡ Run → Goes w (after_event program w (Step g)) g
+    run_by : hart.phase ≡ Run → Goes w (happens program w (Step g)) g
     run_by is =
         let u = after_event program w (Step g) in
         let all : AllPass is_taking false w = none_still entering Run is refl in
@@ -340,30 +342,30 @@ module _ (program : List (List Slot)) (w : World) (entering : IsEntering w) (mov
             count = alike.count;
           };
           own = λ most within. own_zero most;
+          alone = λ busy most within. own_zero most;
         }
 
-    by_phase : (phase : Phase) → hart.phase ≡ phase → Goes w (after_event program w (Step g)) g
+    by_phase : (phase : Phase) → hart.phase ≡ phase → Goes w (happens program w (Step g)) g
     by_phase Take is = take_by is (takes_step program w g (in_take is))
     by_phase Wait is = wait_by is (waits_step program w g (in_wait is))
     by_phase Resume is = resume_by is
     by_phase Run is = run_by is
-    by_phase Done is =
-        idle (ap (λ (o : Outcome). o.0) (stopped_stay program w g Done (inl refl) (in_phase Done is))) (ap (left (missing_of w g)) is)
-    by_phase Ended is =
-        idle (ap (λ (o : Outcome). o.0) (stopped_stay program w g Ended (inr refl) (in_phase Ended is))) (ap (left (missing_of w g)) is)
+    by_phase Done is = idle (stopped_stay program w g Done (inl refl) (in_phase Done is)) (ap (left (missing_of w g)) is)
+    by_phase Ended is = idle (stopped_stay program w g Ended (inr refl) (in_phase Ended is)) (ap (left (missing_of w g)) is)
 
-  nobody : slice_get w.harts g ≡ None → after_event program w (Step g) ≡ w
+  nobody : slice_get w.harts g ≡ None → happens program w (Step g) ≡ (w, Still)
   unfolding happens
-  nobody e = ap (λ (o : Option Hart). (stepped program w g o).0) e
+  nobody e = ap (stepped program w g) e
 
-  step_by : (found : Option Hart) → slice_get w.harts g ≡ found → Goes w (after_event program w (Step g)) g
-  step_by None e = subst (λ (x : World). Goes w x g) (sym (nobody e)) (record {
+  step_by : (found : Option Hart) → slice_get w.harts g ≡ found → Goes w (happens program w (Step g)) g
+  step_by None e = subst (λ (o : Outcome). Goes w o g) (sym (nobody e)) (record {
     is = stays_lowered w entering;
     own = λ most within one there. absurd (let never : None ≡ Some one = sym e ∙ there in cc);
+    alone = λ busy. absurd (let never : true ≡ false = busy in cc);
   })
   step_by (Some hart) e = by_phase hart e hart.phase refl
 
-  pub step_goes : Goes w (after_event program w (Step g)) g
+  pub step_goes : Goes w (happens program w (Step g)) g
   step_goes = step_by (slice_get w.harts g) refl
 
 -- ---- Any event but a crash

@@ -1,21 +1,21 @@
 -- In compiled programs harts that take locks in recovery never wait for one, so recovery is entered within those rounds.
-use Rattle.std.proofs.Common.{◌≡◌, refl, ℕ, ◌+◌, List, [], ◌∷◌, ◌++◌, length, map, ap, sym, ◌∙◌, subst}
+use Rattle.std.proofs.Common.{◌≡◌, refl, List, [], ◌∷◌, ◌++◌, length, map, ap, sym, ◌∙◌, subst}
 use Rattle.log_schemes.specs.declared.log.Log.{Log}
 use Rattle.machine_events.specs.declared.event.Event.{Event}
-use Rattle.machine_events.specs.declared.event.Event.TheVariants.{Step, Crash}
+use Rattle.machine_events.specs.declared.event.Event.TheVariants.{Crash}
 use Rattle.ido_base.specs.Words.{durable_value}
 use Rattle.rv64_isa.specs.declared.object.Slot.{Slot}
 use Rattle.machine_model.specs.Executables.{first_world}
 use Rattle.machine_model.specs.Frames.{IsWellFormedWorld}
-use Rattle.machine_model.specs.Machine.{World, after_event, after_events, after_crash_of, happens, start_of}
+use Rattle.machine_model.specs.Machine.{World, after_event, after_events, after_crash_of, start_of}
 use Rattle.machine_model.proofs.Public.{log_stays, queues_stand, starts_simulate}
 use Rattle.eviction_laws.specs.Evictions.{NoneEnters}
 use Rattle.compiler_correctness.specs.Translations.{Translation, world}
-use Rattle.compiler_correctness.specs.Images.{Image, first_from, world_from}
-use Rattle.crash_bounds.specs.Rounds.{HaveNoCrash, HoldRounds, KeepsAtMost}
+use Rattle.compiler_correctness.specs.Images.{first_from}
+use Rattle.crash_bounds.specs.Rounds.{KeepsAtMost}
 use Rattle.crash_bounds.specs.Entries.{RecoveryIsEntered, ImagesAreEntered}
 use Rattle.crash_bounds.proofs.EnteringHarts.{TakesMove}
-use Rattle.crash_bounds.proofs.RoundsOfHarts.{TakesMoveAlong, after_both, entered}
+use Rattle.crash_bounds.proofs.RoundsOfHarts.{TakesMoveAlong, after_both, crash_leaves, entered}
 
 -- ---- Along events from a world
 
@@ -25,7 +25,7 @@ module _ (program : List (List Slot)) (first : World) where
   after_one done event = after_both program done (event ∷ []) first
 
   -- what is so after all events is so along them
-  moves_along : ((events : List Event) → TakesMove program (after_events program first events)) → (events done : List Event) →
+  pub moves_along : ((events : List Event) → TakesMove program (after_events program first events)) → (events done : List Event) →
       TakesMoveAlong program (after_events program first done) events
   moves_along moves [] done = moves done
   moves_along moves (event ∷ events) done =
@@ -44,15 +44,10 @@ first_log : (c : Translation) → (first_world c.runs).log ≡ c.runs.log
 unfolding start_of
 first_log c = refl
 
-log_is : (c : Translation) (events : List Event) → (world c events).log ≡ c.runs.log
+pub log_is : (c : Translation) (events : List Event) → (world c events).log ≡ c.runs.log
 log_is c events =
     let starts = starts_simulate c.runs.log c.runs.program c.runs.mutexes c.runs.initial in
     log_along c.runs.program events (first_world c.runs) (sym starts.1) starts.0 ∙ first_log c
-
-crash_leaves : (program : List (List Slot)) (w : World) →
-    after_event program w Crash ≡ after_crash_of w.log program (length w.holders) (map durable_value w.words)
-unfolding happens
-crash_leaves program w = refl
 
 pub recovery_is_entered : RecoveryIsEntered
 recovery_is_entered c compiled most few before events none hold =

@@ -3,6 +3,11 @@ mod EnteringHarts
 mod ShortRecords
 mod RoundsOfHarts
 mod Entries
+mod BegunSteps
+mod SumsOfHarts
+mod ActiveSteps
+mod EnabledSteps
+mod Rates
 mod SectionsAlike
 mod SettledMemory
 mod SettledAlike

@@ -1,24 +1,25 @@
 -- By a round each hart is one step nearer; so by as many rounds as its record has locks at most, and 3, each has entered recovery.
-use Rattle.std.proofs.Common.{◌≡◌, ◌≢◌, ◌⊎◌, inl, inr, refl, ℕ, zero, suc, ◌+◌, ◌<◌, ◌≤◌, List, [], ◌∷◌, ◌++◌, length, map, ap, sym, ◌∙◌, subst, arith}
-use Rattle.std.proofs.Common.{cond, Bool, true, false, Option, Some, None}
+use Rattle.std.proofs.Common.{◌≡◌, inl, inr, refl, ℕ, zero, suc, ◌+◌, ◌≤◌, List, [], ◌∷◌, ◌++◌, length, map, ap, sym, ◌∙◌, subst, arith}
+use Rattle.std.proofs.Common.{cond, Bool, true, false, Some, None}
 use Rattle.std.specs.Prelude.{slice_get, ◌==◌, if◌then◌else◌}
 use Rattle.std.proofs.lemmas.Bool.{cases_Bool, eqb-true}
 use Rattle.std.proofs.lemmas.Option.{slice_get_within}
 use Rattle.log_schemes.specs.declared.log.Log.{Log}
 use Rattle.machine_events.specs.declared.event.Event.{Event}
 use Rattle.machine_events.specs.declared.event.Event.TheVariants.{Step, Evict, Crash, Start}
-use Rattle.ido_base.specs.Words.{Word, word_of}
+use Rattle.ido_base.specs.Words.{durable_value, word_of}
 use Rattle.rv64_isa.specs.declared.object.Slot.{Slot}
 use Rattle.machine_model.specs.declared.phase.Phase.{Phase}
 use Rattle.machine_model.specs.declared.phase.Phase.TheVariants.{Take, Done}
-use Rattle.machine_model.specs.Machine.{Hart, World, after_event, after_events, after_crash_of, phase_after_crash, durable_point, fresh_hart, numbers_from}
+use Rattle.machine_model.specs.Machine.{Hart, World, after_event, after_events, happens, after_crash_of, phase_after_crash, durable_point, fresh_hart}
+use Rattle.log_schemes.specs.Schemes.{numbers_from}
 use Rattle.machine_model.specs.Machine.{record_of}
 use Rattle.eviction_laws.specs.Evictions.{NoneEnters}
 use Rattle.hart_runs.specs.Laws.{own_steps, is_step_of}
-use Rattle.crash_bounds.specs.Rounds.{HaveNoCrash, IsRound, HoldRounds, no_more, one_more, KeepsAtMost}
+use Rattle.crash_bounds.specs.Rounds.{HaveNoCrash, HoldRounds, no_more, one_more, KeepsAtMost}
 use Rattle.crash_bounds.proofs.CountedLocks.{missing_most}
 use Rattle.crash_bounds.proofs.EnteringHarts.{IsEntering, taking, IsWithin, Lowers, Goes, TakesMove, event_lowers, step_goes, stays_lowered, lowers_on}
-use Rattle.crash_bounds.proofs.EnteringHarts.{left, left_most, left_none, missing_of, is_gathering}
+use Rattle.crash_bounds.proofs.EnteringHarts.{left_most, left_none, missing_of, is_gathering}
 
 -- ---- Lists of events
 
@@ -89,8 +90,8 @@ module _ (program : List (List Slot)) where
       let first = event_lowers program w event parts.0 moves.0 entering in
       elim (cases_Bool (is_step_of h event)) [
         | inl is ↦
-            let goes : Goes w v h =
-            subst (λ (e : Event). Goes w (after_event program w e) h) (sym (own_is h event is)) (step_goes program w entering moves.0 h) in
+            let goes : Goes w (happens program w event) h =
+            subst (λ (e : Event). Goes w (happens program w e) h) (sym (own_is h event is)) (step_goes program w entering moves.0 h) in
             (along events v parts.1 moves.1 first.entering).lowers h most (goes.own most within)
         | inr other ↦
             let less : 1 ≤ (if is_step_of h event then 1 else 0) + own_steps h events = some in
@@ -113,6 +114,11 @@ module _ (program : List (List Slot)) where
       nearer h less round w parts.0 by.0 entering within (is h (omega (arith, exists, there))) hart found) g)
 
 -- ---- After a crash
+
+pub crash_leaves : (program : List (List Slot)) (w : World) →
+    after_event program w Crash ≡ after_crash_of w.log program (length w.holders) (map durable_value w.words)
+unfolding happens
+crash_leaves program w = refl
 
 module _ (log : Log) (program : List (List Slot)) (mutexes : ℕ) (words : List ℕ) where
   abbrev crashed : World
@@ -137,7 +143,7 @@ module _ (log : Log) (program : List (List Slot)) (mutexes : ℕ) (words : List 
   fresh_count at zero = refl
   fresh_count at (suc count) = let more = fresh_count (at + 1) count in omega (arith, more)
 
-  first_entering : IsEntering crashed
+  pub first_entering : IsEntering crashed
   unfolding after_crash_of
   first_entering = taking (record { values = words; is = refl }) (λ h hart there. fresh_gather 0 (length program) h hart there)
 

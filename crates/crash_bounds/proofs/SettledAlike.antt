@@ -14,7 +14,8 @@ use Rattle.c_tree.specs.Programs.{Variable}
 use Rattle.c_tree.specs.WellFormed.{shape_of, elements_in}
 use Rattle.machine_model.specs.Executables.{first_world}
 use Rattle.machine_model.specs.Frames.{IsWellFormedWorld}
-use Rattle.machine_model.specs.Machine.{Hart, World, after_events, are_settled, durable_point, is_settled, is_settled_hart, live_at, numbers_from}
+use Rattle.machine_model.specs.Machine.{Hart, World, after_events, are_settled, durable_point, is_settled, is_settled_hart, live_at}
+use Rattle.log_schemes.specs.Schemes.{numbers_from}
 use Rattle.machine_model.specs.Schedule.{released_along}
 use Rattle.eviction_laws.specs.Evictions.{NoneEnters, DifferInEvictions, no_more, both_step, one_evicts, other_evicts, HaveInCommon}
 use Rattle.eviction_laws.proofs.Public.{evictions_only_persist, stays_out}

@@ -1,9 +1,10 @@
 -- How soon recovery is entered: in how many rounds over the harts.
-use Rattle.std.specs.Prelude.{ℕ, suc, ◌+◌, ◌<◌, ◌≤◌, List, [], ◌∷◌, ◌++◌, length}
+use Rattle.std.specs.Prelude.{◌≡◌, ℕ, suc, ◌+◌, ◌<◌, ◌≤◌, List, [], ◌∷◌, ◌++◌, length}
 use Rattle.machine_events.specs.declared.event.Event.{Event}
 use Rattle.machine_events.specs.declared.event.Event.TheVariants.{Step, Evict, Crash, Start}
 use Rattle.log_schemes.specs.declared.log.Log.{Log}
-use Rattle.log_schemes.specs.declared.log.Log.TheVariants.{V1, V2}
+use Rattle.log_schemes.specs.declared.keeping.Keeping.TheVariants.{Masked, Listed}
+use Rattle.log_schemes.specs.Schemes.{keeping_of}
 use Rattle.ido_base.specs.Words.{Word}
 use Rattle.machine_model.specs.Machine.{record_of}
 use Rattle.hart_runs.specs.Laws.{own_steps}
@@ -33,7 +34,7 @@ KeepsAtMost log most = (words : List Word) (thread : ℕ) → length (record_of 
 
 -- a bank lists 16 locks at most, and a mask has 64
 abbrev pub ListsKeepSixteen : Type 0
-ListsKeepSixteen = KeepsAtMost V2 16
+ListsKeepSixteen = (log : Log) → keeping_of log ≡ Listed → KeepsAtMost log 16
 
 abbrev pub MasksKeepSixtyFour : Type 0
-MasksKeepSixtyFour = KeepsAtMost V1 64
+MasksKeepSixtyFour = (log : Log) → keeping_of log ≡ Masked → KeepsAtMost log 64

@@ -11,7 +11,9 @@ use Rattle.std.proofs.lemmas.List.Elements.{All-from_recursion}
 use Rattle.ido_base.specs.declared.memory.OutOfMemory.{OutOfMemory}
 use Rattle.ido_base.specs.declared.limits.TheConstants.{MOST_SOURCE_BYTES, VARIABLE_WORDS, MOST_STEPS}
 use Rattle.log_schemes.specs.declared.log.Log.{Log}
-use Rattle.log_schemes.specs.declared.log.Log.TheVariants.{V1, V2}
+use Rattle.log_schemes.specs.declared.size.LogSize.{LogSize}
+use Rattle.log_schemes.specs.declared.size.LogSize.TheVariants.{Lines16, Lines32}
+use Rattle.log_schemes.specs.Schemes.{lines_of, size_of}
 use Rattle.file_fields.specs.Numbers.{number, word, IsNumber}
 use Rattle.run_scripts.specs.Runs.{Run as SpelledRun, AreMerged, runs_of, schedule_of}
 use Rattle.run_scripts.specs.declared.runs.Run.{Run}
@@ -192,8 +194,11 @@ count_length Second n = omega arith
 count_length Third n = omega arith
 
 logs_fit : (log : Log) → most_logs log ≤ 2048
-logs_fit V1 = omega arith
-logs_fit V2 = omega arith
+logs_fit log = by (size_of log)
+  where
+    by : (size : LogSize) → 8 * lines_of size * 8 ≤ 2048
+    by Lines16 = omega arith
+    by Lines32 = omega arith
 
 pub spelling_length : (version : ImageVersion) (source variables logs : List ℕ) (schedules : List (List ℕ))
     → length (spelling version (contents source variables logs schedules))

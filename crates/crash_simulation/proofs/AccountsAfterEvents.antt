@@ -9,7 +9,7 @@ use Rattle.crash_simulation.proofs.Common.{FragmentsGoOn, AbstractRun, kept_of, 
 use Rattle.crash_simulation.proofs.Common.{is_bound, begins, IsUnlocked, was_unlocked, Site, IsReadyToStep, calls, OwnStep, FragmentsStep, CoresStep, Nears}
 use Rattle.crash_simulation.proofs.Common.{EventsStand, RunsSimulate, SectionsEndAtPoints, loses_point, RecoveredAreCounted, sections_kept, one_if}
 use Rattle.crash_simulation.proofs.Common.{IsReleasedOf, ended_in_machine, SectionsAreKept, SimulatesBut, Simulates, anybody, System, IsSystem, thread_count}
-use Rattle.crash_simulation.proofs.Common.{flat_of, ThreadGhost}
+use Rattle.crash_simulation.proofs.Common.{flat_of, ThreadGhost, lowered, now_of}
 use Rattle.crash_simulation.proofs.Common.{boundary_fences, AreFencesCounted}
 use Rattle.crash_simulation.proofs.Common.{is_fence, finishes_fence, is_point_store, stores_point, effect_at, same_or_other, unequal_of, and_left, and_right, Effect}
 use Rattle.std.specs.Prelude.{if◌then◌else◌}
@@ -17,6 +17,8 @@ use Rattle.machine_events.specs.declared.event.Event.TheVariants.{Start}
 use Rattle.source_machine.specs.Lives.{end_lives, ends_life}
 use Rattle.machine_model.specs.Schedule.{KeepsOn, begins_life, completes, released_along}
 use Rattle.crash_simulation.proofs.BoundaryFences.{joined_fences, same_fences}
+use Rattle.crash_simulation.specs.BoundaryPassages.{passages}
+use Rattle.crash_simulation.proofs.BoundaryPassages.{ArePassed, FollowsBegun, led_graph, step_passed, then_passes}
 use Rattle.crash_simulation.specs.AccountRelation.{SimulatesLives, beginning_after, next_beginning}
 use Rattle.crash_simulation.specs.ReleasedSections.{ended_by}
 use Rattle.crash_simulation.specs.InstructionSteps.{on_fragment, at_core}
@@ -141,8 +143,13 @@ module _ (y : System) (s : IsSystem y) (w : World) (event : Event) (old : Simula
   abbrev later_world : World
   later_world = after_event program w event
 
+  -- the boundaries that the thread's steps pass which are begun by it
+  abbrev pub passed_in : (thread : ℕ) → ℕ
+  passed_in n = passages (lowered (flat_of y)) y.plan.boundaries (now_of y old.abstract) (begun_in y w event) n
+
   -- while the life goes on, the source goes on by these steps, and each attempt comes as far as any before; a thread has to give back what it had, or what its
-  -- step unlocks; a hart that executes instructions is one step nearer to its next mark by its own steps; and what is finished of fences no boundary has more ahead
+  -- step unlocks; a hart that executes instructions is one step nearer to its next mark by its own steps; what is finished of fences no boundary has more
+  -- ahead; and the graph goes on by the steps, which pass boundaries as points are stored
   pub record Continues {waiting : ℕ → Type 0} (new : SimulatesBut y s later_world waiting) : Type 0 where
     pub source : now new.abstract.config ≡ after_from (now old.abstract.config) (begun_in y w event)
     pub runs : runs_from (now old.abstract.config) (begun_in y w event) ≡ true
@@ -154,6 +161,9 @@ module _ (y : System) (s : IsSystem y) (w : World) (event : Event) (old : Simula
     pub nears : (n : ℕ) → event ≡ Step n → IsInPhase w n Run → Nears y w n (passes_mark marks program w n) (old.ghosts n).before_mark (new.ghosts n).before_mark
     pub fences : (n : ℕ) → AreFencesCounted (boundary_fences y.plan.log) (finishes_fence program w event n) (stores_point program w event n)
         (old.ghosts n).rest (new.ghosts n).rest
+    pub graph : FollowsBegun y (now_of y old.abstract) (now_of y new.abstract) (begun_in y w event)
+    pub passed : (n : ℕ) → n < thread_count y → ArePassed y (stores_point program w event n) (passed_in n)
+        old.abstract (is_bound (old.ghosts n)) new.abstract (is_bound (new.ghosts n)) n
 
   -- the steps are accounted so, and what the machine released
   abbrev IsCountedThen : {waiting : ℕ → Type 0} → SimulatesBut y s later_world waiting → (account : Steps → Steps) → Type 0
@@ -215,6 +225,10 @@ module _ (y : System) (s : IsSystem y) (w : World) (event : Event) (old : Simula
           fences = λ n.
               coe 0 1 (j. AreFencesCounted (boundary_fences y.plan.log) (finishes_fence program w event n) (stores_point program w event n) (old.ghosts n).rest
               ((sym (c.rest n)) j)) (moves.on.fences n);
+          graph = record { runs = moves.on.graph.runs; is = c.states ∙ moves.on.graph.is };
+          passed = λ n below.
+              then_passes y (stores_point program w event n) (passed_in n) old.abstract moves.next.abstract c.stands.abstract (is_bound (old.ghosts n))
+              (is_bound (moves.next.ghosts n)) (is_bound (c.stands.ghosts n)) n (moves.on.passed n below) (c.passed n below);
         };
       }
 
@@ -276,6 +290,13 @@ module _ (fragments_step : FragmentsStep) (cores_step : CoresStep) where
               fences = λ n.
                   same_fences (boundary_fences y.plan.log) _ _ (old.ghosts n).rest (completes_none is_fence y.runs.program w h n none)
                   (completes_none (is_point_store w.log n) y.runs.program w h n none);
+              graph = subst (λ (us : List ℕ). FollowsBegun y (now_of y old.abstract) (now_of y old.abstract) us) (sym begun)
+                  (record { runs = refl; is = refl });
+              passed = λ n below.
+                  let unstored = ap one_if (completes_none (is_point_store w.log n) y.runs.program w h n none) in
+                  let unpassed : passed_in y s w (Step h) old n ≡ 0 =
+                  ap (λ (us : List ℕ). passages (lowered (flat_of y)) y.plan.boundaries (now_of y old.abstract) us n) begun in
+                  omega (arith, unstored, unpassed);
             };
           }
 
@@ -331,6 +352,14 @@ module _ (fragments_step : FragmentsStep) (cores_step : CoresStep) where
                         (same_fences (boundary_fences y.plan.log) _ _ (ghosts n).rest (completes_other is_fence y.runs.program w h n apart)
                         (completes_other (is_point_store w.log n) y.runs.program w h n apart))
                   ]);
+              graph =
+                  coe 0 1 (j. FollowsBegun y (now_of y (r.similar.abstract j)) (now_of y o.next) (begun_by (marks j) h []))
+                  (led_graph y s site.stands.abstract h o.next o.led);
+              passed = λ n below.
+                  coe 0 1 (j. ArePassed y (stores_point y.runs.program w (Step h) n)
+                  (passages (lowered (flat_of y)) y.plan.boundaries (now_of y (r.similar.abstract j)) (begun_by (marks j) h []) n)
+                  (r.similar.abstract j) ((r.similar.same n).bound j) o.next (is_bound (later.ghosts n)) n)
+                  (step_passed y s w h site.stands o (λ k apart. completes_other (is_point_store w.log k) y.runs.program w h k apart) n);
             };
           }
 
@@ -371,6 +400,8 @@ module _ (fragments_step : FragmentsStep) (cores_step : CoresStep) where
         stays = λ n other. refl;
         nears = λ n is i. cc;
         fences = λ n. same_fences (boundary_fences y.plan.log) false false (old.ghosts n).rest refl refl;
+        graph = record { runs = refl; is = refl };
+        passed = λ n below. omega arith;
       };
     }
 

@@ -25,6 +25,7 @@ use Rattle.crash_simulation.proofs.LoadFreeEnvironment.{bare_answers, placed}
 use Rattle.crash_simulation.proofs.LocksAtCalls.{ends_free}
 use Rattle.crash_simulation.proofs.StepsAfterMarks.{less_soon}
 use Rattle.crash_simulation.proofs.FragmentSteps.{not_twice}
+use Rattle.crash_simulation.proofs.ChosenNodes.{plain_after_unlock}
 
 -- ---- An unlock
 
@@ -124,6 +125,7 @@ module _ {y : System} {s : IsSystem y} {w : World} {h from mutex : ℕ} (at : At
         fits = (
           record { going = none_begun ∙ sym none_done; rest = rest_over at; giving = refl; committed = committed_over at },
           bounded.execution,
+          λ chosen. absurd (plain_after_unlock y s from graph_thread.at unlock.is unlock.lock unlock.at unlock.unlocks chosen),
         );
         soon =
             let queue : length given_hart.queue ≡ length t.log.hart.queue = ap (λ (q : List Entry). length q) given_queue in

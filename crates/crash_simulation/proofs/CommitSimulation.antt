@@ -9,12 +9,13 @@ use Rattle.crash_simulation.proofs.Common.{ExitPoint, Keeps, Code, same_or_other
 use Rattle.crash_simulation.proofs.Common.{Beginning, counted_steps, is_bound, CommitStutters, sections_kept, one_if, IsReleasedOf, SimulatesBut, Simulates}
 use Rattle.crash_simulation.proofs.Common.{anybody, AreHeld, AreLocked, gathering, gathered, nobody, System, IsSystem, thread_count, flat_of, ThreadGhost}
 use Rattle.crash_simulation.proofs.Common.{ThreadInv, ExitInv, HasCommittedLog, committed}
+use Rattle.crash_simulation.proofs.BoundaryPassages.{ArePassed, ComesToBoundary, comes, others_taken, own_taken, then_passes}
 use Rattle.crash_simulation.proofs.AccountUpdates.{not_kept, kept_is, kept_pending_is, kept_count_same, kept_own_is, kept_other_is, still_accounted}
 use Rattle.crash_simulation.proofs.StatesMatchSource.{resumed, as_source}
 use Rattle.crash_simulation.proofs.PendingReleases.{IsAtBoundary, at_keeps, at_took, at_gives, under_way}
 use Rattle.crash_simulation.proofs.ThreadsOfMachines.{each_thread, phase_of}
 use Rattle.crash_simulation.proofs.ThreadCommits.{MaySettle, is_emptied, invariant, none_describes, committed_run, now_same, source_same, own_begun, own_done}
-use Rattle.crash_simulation.proofs.ThreadCommits.{own_describes, begun_same, unlock_kept, taken, own_stands, other_stands}
+use Rattle.crash_simulation.proofs.ThreadCommits.{own_describes, begun_same, done_same, unlock_kept, taken, own_stands, other_stands}
 use Rattle.crash_simulation.proofs.LongestAttempts.{AreFurthest, settled_furthest}
 use Rattle.crash_simulation.proofs.LocksAfterStep.{held_alike}
 use Rattle.crash_simulation.proofs.LastReleases.{uncommitted_leaving}
@@ -92,6 +93,7 @@ module _ (y : System) (s : IsSystem y) (w : World) (k : ℕ) (below : k < thread
     pending : next.config.uncommitted ≡ without (steps_begun b.config k) k b.config.uncommitted
     own_begun : steps_begun next.config k ≡ 0
     others_begun : (n : ℕ) → n ≢ k → steps_begun next.config n ≡ steps_begun b.config n
+    others_done : (n : ℕ) → n ≢ k → (attempt_of next.config n).done ≡ (attempt_of b.config n).done
     states : now_of y next ≡ now_of y b
     source : now next.config ≡ now b.config
     tried : AreFurthest b.config → AreFurthest next.config
@@ -111,6 +113,7 @@ module _ (y : System) (s : IsSystem y) (w : World) (k : ℕ) (below : k < thread
       pending = ap (λ (n : ℕ). without n k b.config.uncommitted) (sym none);
       own_begun = none;
       others_begun = λ n apart. refl;
+      others_done = λ n apart. refl;
       states = refl;
       source = refl;
       tried = λ furthest. furthest;
@@ -136,6 +139,7 @@ module _ (y : System) (s : IsSystem y) (w : World) (k : ℕ) (below : k < thread
           pending = refl;
           own_begun = own_begun y s b k may;
           others_begun = λ n apart. begun_same y s b k may n apart;
+          others_done = λ n apart. done_same y s b k may n apart;
           states = now_same y s b k may;
           source = source_same y s b k may;
           tried = settled_furthest b.config k (slice_set b.config.attempts k no_attempt) may.settled;
@@ -240,6 +244,10 @@ pub record CatchesUp (y : System) (s : IsSystem y) (w : World) (first : Simulate
   pub giving : (n : ℕ) → (stands.ghosts n).giving ≡ (first.ghosts n).giving
   pub ahead : (n : ℕ) → (stands.ghosts n).before_mark ≡ (first.ghosts n).before_mark
   pub rest : (n : ℕ) → (stands.ghosts n).rest ≡ (first.ghosts n).rest
+  -- the graph is where it was, and of boundaries that are passed and points that are stored as many are ahead
+  pub states : now_of y stands.abstract ≡ now_of y first.abstract
+  pub passed : (n : ℕ) → n < thread_count y →
+      ArePassed y false 0 first.abstract (is_bound (first.ghosts n)) stands.abstract (is_bound (stands.ghosts n)) n
   pub counted : (g : Beginning) (steps : Steps) (r : ℕ → ℕ) → AreCounted y g w first.abstract first.ghosts steps r →
       AreCounted y g w stands.abstract stands.ghosts (with_all_kept w.log w.words count steps) r
   -- sections that are kept since
@@ -277,6 +285,13 @@ module _ (y : System) (s : IsSystem y) (w : World) (first : SimulatesBut y s w a
         let b = h.stands.abstract in
         let one = is_taken_up y s w k below h.stands not_yet sooner in
         let same = others_same y s b one.next k one.origin one.schedule in
+        let passed_by = each_taken y s w k below h.stands one not_yet
+        (λ (n : ℕ) (inside : n < thread_count y) (g : ThreadGhost). ArePassed y false 0 b (is_bound (h.stands.ghosts n)) one.next (is_bound g) n)
+        (subst (λ (z : Bool). ArePassed y false 0 b z one.next false k) (sym bound)
+        (own_taken y s b one.next k one.origin one.schedule
+        (subst (ComesToBoundary y b) (s.codes.number k below) (comes y s w b (s.codes.each k below) mine (h.stands.each k below) not_yet)) one.own_begun))
+        (λ n inside apart. others_taken y s b one.next k one.origin one.schedule n (is_bound (h.stands.ghosts n)) apart (one.others_begun n apart)
+        (one.others_done n apart)) in
         record {
           stands = after y s w k below h.stands one not_yet sooner;
           source = one.source ∙ h.source;
@@ -284,6 +299,10 @@ module _ (y : System) (s : IsSystem y) (w : World) (first : SimulatesBut y s w a
           giving = h.giving;
           ahead = h.ahead;
           rest = h.rest;
+          states = one.states ∙ h.states;
+          passed = λ n inside.
+              then_passes y false 0 first.abstract b one.next (is_bound (first.ghosts n)) (is_bound (h.stands.ghosts n)) _ n (h.passed n inside)
+              (passed_by n inside);
           counted = λ g steps r counted.
               counted_after y s w k below h.stands one not_yet g (with_all_kept w.log w.words k steps) r (h.counted g steps r counted) bound reached;
           ends = λ n. elim (same_or_other n k) [
@@ -309,6 +328,8 @@ module _ (y : System) (s : IsSystem y) (w : World) (first : SimulatesBut y s w a
       giving = h.giving;
       ahead = h.ahead;
       rest = h.rest;
+      states = h.states;
+      passed = h.passed;
       counted = λ g steps r counted.
           let later = h.counted g steps r counted in
           subst (λ (z : Steps). AreCounted y g w h.stands.abstract h.stands.ghosts z r)
@@ -348,6 +369,8 @@ module _ (y : System) (s : IsSystem y) (w : World) (first : SimulatesBut y s w a
     giving = λ n. refl;
     ahead = λ n. refl;
     rest = λ n. refl;
+    states = refl;
+    passed = λ n inside. omega arith;
     counted = λ g steps r counted. counted;
     ends = λ n. same_end y first.abstract first.abstract n (record { sections = refl; between = refl });
     same_later = λ n later. record { sections = refl; between = refl };

@@ -52,7 +52,8 @@ pub use Rattle.c_ranges.proofs.Public.{zip_found, fits_element, lock_below, Pair
 pub use Rattle.machine_model.specs.Executables.{first_world}
 pub use Rattle.machine_model.specs.Frames.{IsWellFormedWorld}
 pub use Rattle.machine_model.specs.Machine.{Hart, World, after_event, reply_to, stepped, after_events, durable_point, Outcome, with_holder, moved, gone_on}
-pub use Rattle.machine_model.specs.Machine.{resume_of, fresh_hart, numbers_from}
+pub use Rattle.machine_model.specs.Machine.{resume_of, fresh_hart}
+pub use Rattle.log_schemes.specs.Schemes.{numbers_from}
 unfoldable pub use Rattle.machine_model.specs.Machine.{happens, after_crash_of, start_of}
 pub use Rattle.rv64_isa.specs.Programs.{code_start}
 pub use Rattle.rv64_isa.specs.Rows.{read, Effect, Stores, Continues, Loads, Cleans, Fences, Calls}

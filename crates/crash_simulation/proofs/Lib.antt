@@ -23,6 +23,7 @@ mod LockCallSteps
 mod CallSteps
 mod Loads
 mod NodeEffects
+mod ChosenNodes
 mod ConfigAfterBegin
 mod GraphAfterBegin
 mod NodeEnvironments
@@ -43,10 +44,12 @@ mod StepSimulation
 mod ThreadCommits
 mod Sections
 mod LongestAttempts
+mod BoundaryPassages
 mod CommitSimulation
 mod AccountUpdates
 mod AccountsBeforeCommit
 mod LifeAccounts
+mod FirstPassages
 mod LifeStarts
 mod AccountsAfterEvents
 mod NoStuckHarts

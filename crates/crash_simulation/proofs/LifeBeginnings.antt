@@ -15,7 +15,7 @@ use Rattle.crash_simulation.proofs.Common.{IsNodeOf, IsPendingIn, Enters, locals
 use Rattle.crash_simulation.proofs.Common.{between, HasGathered, AbstractRun, kept_of}
 use Rattle.crash_simulation.proofs.Common.{now_of, StartSimulates, Simulates, gathered}
 use Rattle.crash_simulation.proofs.Common.{IsMachineOf, most_ahead, System, IsSystem, thread_count, flat_of, places_of, ThreadGhost, on_fragment}
-use Rattle.crash_simulation.proofs.Common.{InPhase, ThreadInv, InFragment}
+use Rattle.crash_simulation.proofs.Common.{InPhase, ThreadInv, InFragment, IsChosen}
 use Rattle.flow_graph.specs.Lowering.{thread_count as node_count}
 use Rattle.recovery_semantics.specs.Executions.{begins}
 use Rattle.c_tree.specs.Flats as f
@@ -23,6 +23,8 @@ use Rattle.c_tree.specs.Source as m
 use Rattle.crash_simulation.proofs.StatesMatchSource.{free_holds_none, none_holds, repeated_or}
 use Rattle.crash_simulation.proofs.RecordsAfterCrash.{over_is_caught}
 use Rattle.crash_simulation.proofs.StepsAfterMarks.{entry_soon}
+use Rattle.crash_simulation.proofs.ChosenNodes.{plain_unless_pending}
+use Rattle.crash_simulation.proofs.GraphAfterBegin.{matches_now}
 use Rattle.crash_simulation.proofs.LoadFreeEnvironment.{bare, bare_agrees, bare_meets, bare_answers}
 use Rattle.region_attempts.specs.Laws.{HoldsNothing}
 use Rattle.crash_simulation.proofs.SimulationAtStart.{resting_ghost, resting_thread}
@@ -61,6 +63,7 @@ pub record BeginsLife (y : System) (o : Origin (flat_of y)) (v : World) : Type 0
   pub machine : IsMachineOf y v
   pub stable : AreStable o.source (memory_in (places_of y) v.words)
   pub whole : o.flow.graph_threads ≡ map graph_thread_start (lowered (flat_of y)).threads
+  pub all_free : o.flow.holders ≡ replicate (length (flat_of y).mutexes) None
   pub free : HoldsNothing (flat_of y) o
   pub fresh : (n : ℕ) → n < thread_count y → IsAtFirstWord y v n
   pub logs : (n : ℕ) → n < thread_count y → LogInv n nothing_recorded nothing_recorded v []
@@ -101,7 +104,7 @@ module _ (y : System) (s : IsSystem y) (o : Origin (flat_of y)) (v : World) (lif
   part_there : (code : Code y.plan) → slice_get (lowered (flat_of y)).threads code.thread.number ≡ Some code.thread.part
   part_there code = subst (λ (graph : Graph). slice_get graph.threads code.thread.number ≡ Some code.thread.part) s.plan.lowered code.of.nodes
 
-  walks : (code : Code y.plan) → slice_get (now_of y abstract).graph_threads code.thread.number ≡ Some (graph_thread code)
+  pub walks : (code : Code y.plan) → slice_get (now_of y abstract).graph_threads code.thread.number ≡ Some (graph_thread code)
   walks code =
       ap (λ (ts : List GraphThread). slice_get ts code.thread.number) life.whole
       ∙ (slice_get-map graph_thread_start (lowered (flat_of y)).threads code.thread.number ∙ ap (option_map graph_thread_start) (part_there code))
@@ -127,6 +130,11 @@ module _ (y : System) (s : IsSystem y) (o : Origin (flat_of y)) (v : World) (lif
     pending = λ is at. pending_free y.plan is.action (seen_by (now_of y abstract) (graph_thread code)) (replicate 32 0) refl;
   }
 
+  -- a thread begins with no store pending
+  pub plain_first : (code : Code y.plan) → ¬ (IsChosen y.plan.graph y.plan.boundaries code.thread.part.first)
+  plain_first code =
+      plain_unless_pending y s (now_of y abstract) (now abstract.config) code.thread.number (matches_now y s abstract) (graph_thread code) (walks code) refl
+
   on_its_fragment : (n : ℕ) (below : n < thread_count y) (hart : Hart) → slice_get v.harts (s.codes.each n below).thread.number ≡ Some hart →
       InFragment y v abstract (s.codes.each n below) (ghosts n) hart (graph_thread (s.codes.each n below)) Arrives 0
   on_its_fragment n below hart here =
@@ -150,7 +158,7 @@ module _ (y : System) (s : IsSystem y) (o : Origin (flat_of y)) (v : World) (lif
               is = ap (λ (registers : List ℕ). config registers at.hart.pc) at.registers ∙ ap (config (replicate 32 0)) (at.pc ∙ start);
             })
             (enters code);
-        fits = (record { going = sym (none_done number); rest = refl; giving = refl; committed = refl }, refl);
+        fits = (record { going = sym (none_done number); rest = refl; giving = refl; committed = refl }, refl, λ chosen. absurd (plain_first code chosen));
         soon =
             let all = entry_soon y s n below code.thread.part.first (length hart.queue) (first_node code) (life.machine.short number hart here) in
             let is : most_ahead y number ≡ most_ahead y n = ap (most_ahead y) same in
@@ -227,6 +235,7 @@ module _ (y : System) (s : IsSystem y) where
         (sym (starts_hold y.runs.log (flat_of y) y.runs.program y.runs.mutexes y.runs.initial s.plan.formed s.initial))
         (fresh_are_stable (m.start (flat_of y)));
     whole = refl;
+    all_free = refl;
     free = start_free (flat_of y) s.plan.formed s.disciplined;
     fresh = λ n below. record {
       hart = fresh_hart y.runs.program Run n;

@@ -27,7 +27,12 @@ use Rattle.crash_simulation.specs.LaterLives.{HaveStopped, IsBegunAnew}
 use Rattle.crash_simulation.proofs.AccountsBeforeCommit.{begun_counted, none_more, released_by}
 use Rattle.crash_simulation.proofs.BoundaryFences.{same_fences}
 use Rattle.crash_simulation.proofs.LifeAccounts.{all_between}
+use Rattle.crash_simulation.specs.AbstractRuns.{now_of}
+use Rattle.crash_simulation.specs.BoundaryPassages.{graph_anew}
+use Rattle.crash_simulation.specs.InstructionSteps.{is_bound}
+use Rattle.crash_simulation.proofs.BoundaryPassages.{passages_ahead, points_ahead}
 use Rattle.crash_simulation.proofs.LifeBeginnings.{BeginsLife, life_stands}
+use Rattle.crash_simulation.proofs.FirstPassages.{first_even}
 use Rattle.crash_simulation.proofs.LivesBegin.{ends_between, life, origin, stands_anew}
 use Rattle.crash_simulation.proofs.LongestAttempts.{AreFurthest}
 use Rattle.crash_simulation.proofs.Sections.{EndAsLeft, same_end}
@@ -39,6 +44,10 @@ pub record HasBegun (y : System) (s : IsSystem y) (v : World) (stands : Simulate
   pub furthest : AreFurthest stands.abstract.config
   pub none_giving : (n : ℕ) → (stands.ghosts n).giving ≡ None
   pub none_ahead : (n : ℕ) → (stands.ghosts n).rest ≡ []
+  -- the graph is at its start, but for the variables
+  pub graph_is : now_of y stands.abstract ≡ graph_anew (flat_of y) stands.abstract.origin.source.variables
+  -- no boundary is passed, and no point stored
+  pub even : (n : ℕ) → n < thread_count y → passages_ahead y stands.abstract n ≡ points_ahead y stands.abstract (is_bound (stands.ghosts n)) n
 
 pub has_begun : (y : System) (s : IsSystem y) (o : Origin (flat_of y)) (v : World) (begins : BeginsLife y o v) → HasBegun y s v (life_stands y s o v begins)
 has_begun y s o v begins = record {
@@ -48,6 +57,8 @@ has_begun y s o v begins = record {
       ap (λ (a : Attempt). a.done) none ∙ sym (ap (λ (a : Attempt). a.longest) none);
   none_giving = λ n. refl;
   none_ahead = λ n. refl;
+  graph_is = λ i. record { variables = o.matches.variables i; holders = begins.all_free i; graph_threads = begins.whole i };
+  even = λ n below. first_even y s o v begins n below;
 }
 
 module _ (y : System) (s : IsSystem y) (w : World) (old : Simulates y s w) where

@@ -1,8 +1,8 @@
 -- Where all harts have stopped between sections another life may begin: the machine simulates an abstract run that begins with what is kept.
-use Rattle.crash_simulation.proofs.Common.{◌≡◌, ◌⊎◌, inl, inr, ℕ, List, [], ◌∷◌, zero, suc, ◌<◌, ◌≤◌, length, sym, ◌∙◌, ap, arith, subst, true, refl}
+use Rattle.crash_simulation.proofs.Common.{◌≡◌, ◌⊎◌, inl, inr, ℕ, List, [], zero, suc, ◌<◌, ◌≤◌, length, sym, ◌∙◌, ap, arith, subst, true, refl}
 use Rattle.crash_simulation.proofs.Common.{Option, Some, slice_get, true≢false, same_Some, slice_get_within, and_parts, eqb-true, cases_lt}
 use Rattle.crash_simulation.proofs.Common.{is_between, holds_none, AreEntries, Hart, World, fresh_hart, Phase, Run, Log, Word}
-use Rattle.crash_simulation.proofs.Common.{LogInv, nothing_recorded, Record, AbstractRun, Simulates, IsMachineOf, gathering, gathered, System, IsSystem}
+use Rattle.crash_simulation.proofs.Common.{LogInv, nothing_recorded, AbstractRun, Simulates, IsMachineOf, gathering, gathered, System, IsSystem}
 use Rattle.crash_simulation.proofs.Common.{thread_count, flat_of, places_of, InPhase, Origin, memory_in, word_count}
 use Rattle.machine_model.specs.declared.phase.Phase.TheVariants.{Done, Ended}
 use Rattle.machine_model.specs.Machine.{are_settled, durable_point, is_settled_hart}
@@ -166,6 +166,7 @@ module _ (y : System) (s : IsSystem y) (w v : World) (old : Simulates y s w) (en
     machine = machine;
     stable = stable;
     whole = refl;
+    all_free = refl;
     free = λ lock n held. none_holds _ lock n held;
     fresh = fresh;
     logs = logs;

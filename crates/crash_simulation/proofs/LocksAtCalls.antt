@@ -1,5 +1,5 @@
 -- What a thread holds, locks and unlocks where its graph thread is at a call.
-use Rattle.crash_simulation.proofs.Common.{◌≡◌, ◌≢◌, ℕ, List, ◌∷◌, sym, ◌∙◌, ap, arith, subst, true, false, Option, Some, None, refl, suc, ◌<◌, [], length}
+use Rattle.crash_simulation.proofs.Common.{◌≡◌, ◌≢◌, ℕ, List, ◌∷◌, sym, ◌∙◌, ap, arith, subst, false, Option, Some, None, refl, suc, ◌<◌, [], length}
 use Rattle.crash_simulation.proofs.Common.{zero, slice_get, true≢false, is_some, ℤ, AllByRecursion, nat_tests, none-some, same_Some, Held, holds, none_held}
 use Rattle.crash_simulation.proofs.Common.{lock_names, Pending, source_step, lock_number, KeepList, StateKeeps, locks, first_lock, run_keeps, lock_below}
 use Rattle.crash_simulation.proofs.Common.{locks_found, IsThreadOf, IsStatementLeft, zip_found, GraphThread, FlowState, seen_by, effect_of, graph_step, NodeAt}

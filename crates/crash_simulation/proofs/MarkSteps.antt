@@ -7,7 +7,7 @@ use Rattle.crash_simulation.proofs.Common.{flow_now, seen_effects, IsElsewhere, 
 use Rattle.crash_simulation.proofs.Common.{Ends, IsOnFragment, on_machine, Stage, stage_after, stage_sees, run_at, fragments_see_all, AbstractRun, kept_of}
 use Rattle.crash_simulation.proofs.Common.{now_of, is_bound, nothing_released, MayStore, goes, IsDoneBy, begins_step, is_begun, most_ahead, beyond, System}
 use Rattle.crash_simulation.proofs.Common.{IsSystem, flat_of, places_of, ThreadGhost, on_fragment, InPhase, ThreadInv, ExitInv, AnswersGuarded, IsFlushed}
-use Rattle.crash_simulation.proofs.Common.{IsInAttempt}
+use Rattle.crash_simulation.proofs.Common.{IsInAttempt, ◌<◌, steps_begun, counted_own}
 use Rattle.crash_simulation.proofs.Common.{is_fence, finishes_fence, stores_point, Step, boundary_fences, AreFencesCounted}
 use Rattle.flow_graph.proofs.Public.{moved}
 use Rattle.flow_graph.specs.Actions as a
@@ -131,8 +131,20 @@ module _ {y : System} {s : IsSystem y} {w : World} {h : ℕ} (site : AtNode y s 
     goes_next : IsInAttempt y next.config n new
     goes_next = record { going = goes_still b.config n o.memory site.core.goes.goes.going; rest = refl; giving = refl; committed = refl }
 
+    begun_next : 0 < steps_begun next.config n
+    begun_next = omega (arith, counted_own n b.config.uncommitted)
+
+    arrives_next : {Chosen : Type 0} → IsInAttempt y next.config n new × (graph_thread.ended ≡ false) × (Chosen → 0 < steps_begun next.config n)
+    arrives_next = (goes_next, site.core.goes.execution, λ chosen. begun_next)
+
     fits_by : (f : a.Effect) → is_plain f ≡ true → (f ≡ a.Ends → o.cleans ≡ []) → ExitInv y next.config n new (moved graph_thread f) (exit_after f)
-    fits_by f plain ends = grind (arith, goes_next)
+    fits_by (a.Sets local number to) plain ends = arrives_next
+    fits_by (a.Owes store to) plain ends = arrives_next
+    fits_by (a.Makes store to) plain ends = arrives_next
+    fits_by (a.Goes to) plain ends = arrives_next
+    fits_by (a.Takes mutex to) plain ends = absurd (true≢false (sym plain))
+    fits_by (a.Gives mutex to) plain ends = absurd (true≢false (sym plain))
+    fits_by a.Ends plain ends = record { goes = goes_next; cleans = ends refl; execution = refl }
 
     module _ (answers : AnswersGuarded y (now next.config) n (environment site o.mark.doing))
         (flushed : (u i : ℕ) → Writes next.config.kept n (attempt_of next.config n).done u i → IsFlushed y v next code new later_hart u i) where

@@ -3,6 +3,8 @@ pub use Rattle.crash_simulation.proofs.AccountUpdates.{begun_by, count_same, cou
 pub use Rattle.crash_simulation.proofs.AccountsAfterEvents.{Continues, GoesOn, begun_in, event_goes_on, not_running, not_there, own_by, step_of}
 pub use Rattle.crash_simulation.proofs.AccountsAfterEvents.{life_begins, life_carried, life_goes_on, none_begins, steps_join, worlds_join}
 pub use Rattle.crash_simulation.proofs.AccountsBeforeCommit.{none_more, released_by, start_counted}
+pub use Rattle.crash_simulation.proofs.BoundaryPassages.{ArePassed, FollowsBegun, chosen_here, chosen_none, going_ahead, passages_ahead, points_ahead}
+pub use Rattle.crash_simulation.proofs.ChosenNodes.{store_there}
 pub use Rattle.crash_simulation.proofs.DisjointStores.{next_store}
 pub use Rattle.crash_simulation.proofs.LifeAccounts.{begins_at, earlier_after, from_after, kept_after, lives_are, schedule_is}
 pub use Rattle.crash_simulation.proofs.LifeBeginnings.{first_life, first_origin, life_stands, pending_free, row_of, start_simulates}

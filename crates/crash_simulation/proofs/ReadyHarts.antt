@@ -2,8 +2,8 @@
 use Rattle.crash_simulation.proofs.Common.{◌≡◌, ℕ, List, ◌∷◌, sym, ◌∙◌, ap, arith, subst, true, false, Option, Some, None, refl, suc, ◌+◌, ◌<◌, [], ◌++◌}
 use Rattle.crash_simulation.proofs.Common.{length, Bool, ◌⊎◌, inl, inr, zero, slice_get, ◌&&◌, not, true≢false, ◌≤◌, ap₂, ◌*◌, ⊎_elim, list_any, option_map}
 use Rattle.crash_simulation.proofs.Common.{none-some, same_Some, slice_get_within, slice_get-map, Log, Variable, Pending, lock_number, Hart, World, Effect}
-use Rattle.crash_simulation.proofs.Common.{Phase, Run, GraphThread, effect_of, IsChosen, IsUnlock, NodeAt, lowered, threads_nodes, Action, Node, Graph, Lock}
-use Rattle.crash_simulation.proofs.Common.{Unlock, nodes_at, node_shaped, Boundary, boundary_effects, side_after, now, IsGoing, StoresHere, writing_stores}
+use Rattle.crash_simulation.proofs.Common.{Phase, Run, GraphThread, effect_of, IsChosen, IsUnlock, NodeAt, Action, Node, Graph, Lock}
+use Rattle.crash_simulation.proofs.Common.{Unlock, Boundary, boundary_effects, side_after, now, IsGoing, StoresHere}
 use Rattle.crash_simulation.proofs.Common.{MarkedEnvironment, seen_effects, recorded_by, LogInv, is_store, is_committed, side_follows, boundaries_fence}
 use Rattle.crash_simulation.proofs.Common.{boundary_stores, begins_uncommitted, IsInPhase, cleans_in, steps_left, keeping, Entrance, kind_at, IsNodeCode}
 use Rattle.crash_simulation.proofs.Common.{IsAnswered, source_of, ExitPoint, Arrives, Gives, Ends, IsOnFragment, on_machine, Keeps, Asks, Took, IsPlaced}
@@ -27,6 +27,7 @@ use Rattle.crash_simulation.proofs.StatesMatchSource.{resumed, now_orderly, now_
 use Rattle.crash_simulation.proofs.StepsAfterMarks.{weight_is, core_less, less_soon}
 use Rattle.crash_simulation.proofs.LastReleases.{none_leaving}
 use Rattle.crash_simulation.proofs.NodeEffects.{some_node}
+use Rattle.crash_simulation.proofs.ChosenNodes.{chosen_stores, plain_after_lock}
 use Rattle.crash_simulation.proofs.GraphAfterBegin.{matches_now}
 use Rattle.crash_simulation.proofs.OwnHartSteps.{view, log_begins, step_to}
 use Rattle.crash_simulation.proofs.ThreadViews.{begins_with, describes_over, none_clean, records_begin}
@@ -72,19 +73,6 @@ chosen_or_not y node is at = by (slice_get y.plan.boundaries.before node) refl
     by None e = inr (λ chosen. none-some true (sym e ∙ chosen.stands))
     by (Some false) e = inr (λ chosen. true≢false (sym (same_Some false true (sym e ∙ chosen.stands))))
     by (Some true) e = stands_by e is.action refl
-
--- before a store alone
-chosen_stores : (y : System) (s : IsSystem y) (node : ℕ) (is : Node) → NodeAt y.plan.graph node is →
-    IsChosen y.plan.graph y.plan.boundaries node → StoresHere is.action
-chosen_stores y s node is at chosen = elim (s.plan.at_writes.before node chosen.stands) [
-  | inl u ↦ absurd (chosen.free u)
-  | inr writes ↦
-      let same : writes.is ≡ is = same_Some writes.is is (sym writes.at ∙ at) in
-      let found : NodeAt (lowered (flat_of y)) node is = subst (λ (g : Graph). NodeAt g node is) s.plan.lowered at in
-      writing_stores (threads_nodes (flat_of y) (flat_of y).threads 0) is is.action writes.written
-      (node_shaped (flat_of y) node is (nodes_at (flat_of y) node is found))
-      (ap (λ (z : Node). z.writes) (sym same) ∙ writes.writes)
-]
 
 -- ---- A thread in a machine that simulates an abstract run
 
@@ -279,7 +267,7 @@ module _ {y : System} {s : IsSystem y} {w : World} {h : ℕ} (site : Site y s w 
       fits = (
         chosen,
         going,
-        record { execution = fits.1; cleans = refl; gives = refl; before = λ e. tt; after = λ e. absurd (true≢false (sym e)) },
+        record { execution = fits.1; cleans = refl; gives = refl; before = λ e. fits.2 chosen; after = λ e. absurd (true≢false (sym e)) },
       );
       soon = soon_then;
     }
@@ -422,7 +410,12 @@ module _ {y : System} {s : IsSystem y} {w : World} {h : ℕ} (site : Site y s w 
         side = a.side;
         at_side = a.at_side;
         fragment = subst (FragmentWith site (bare_here site) a.side some.steps Arrives) (sym none) some.on;
-        fits = (record { going = going; rest = right_empty c.cleans c.rest none; giving = a.fits.gives; committed = settled site a }, a.fits.execution);
+        fits = (
+          record { going = going; rest = right_empty c.cleans c.rest none; giving = a.fits.gives; committed = settled site a },
+          a.fits.execution,
+          λ chosen.
+              absurd (let lock = a.fragment.of_graph.1 in plain_after_lock y s from graph_thread.at lock.is lock.lock lock.at lock.locks chosen),
+        );
         soon = less_soon y n c.before_mark _ _ a.soon (omega (arith, some.short));
       })
 

@@ -1,4 +1,5 @@
 -- After a crash, and where recovery begins with words that describe an origin, the machine simulates an abstract run.
+
 use Rattle.crash_simulation.proofs.Common.{◌≡◌, ℕ, List, ◌∷◌, sym, ◌∙◌, ap, arith, subst, true, Option, Some, None, refl, suc, ◌<◌, [], ◌++◌, length, zero}
 use Rattle.crash_simulation.proofs.Common.{replicate, slice_get, true≢false, append-nil, map, Contains, option_map, length-replicate}
 use Rattle.crash_simulation.proofs.Common.{none-some, same_Some, word_count, Word, durable_value, word_of, Crash, Log}

@@ -11,7 +11,7 @@ use Rattle.crash_simulation.proofs.Common.{AreGathering, Awaits, IsRecoveredHart
 use Rattle.crash_simulation.proofs.Common.{gathered_go_on, records_are_apart, gathered_are_kept, harts_go_on, kept_of, now_of, Site, TakesStand, WaitsStand}
 use Rattle.crash_simulation.proofs.Common.{StoppedStand, ResumesStand, SimulatesBut, Simulates, anybody, AreHeld, AreLocked, gathering, gathered, records_of}
 use Rattle.crash_simulation.proofs.Common.{IsMachineOf, System, IsSystem, thread_count, flat_of, places_of, Rests, on_fragment, at_core, InPhase, ThreadInv}
-use Rattle.crash_simulation.proofs.Common.{IsRunningThread, IsInAttempt}
+use Rattle.crash_simulation.proofs.Common.{IsRunningThread, IsInAttempt, IsChosen}
 use Rattle.recovered_threads.specs.RecoveryStates as r
 use Rattle.crash_simulation.proofs.LocksAfterStep.{held_alike}
 use Rattle.crash_simulation.proofs.StatesMatchSource.{orderly}
@@ -20,6 +20,7 @@ use Rattle.crash_simulation.proofs.ThreadViews.{IsQuiet, describes_over, moves_a
 use Rattle.crash_simulation.proofs.ThreadsOfMachines.{machine_stays, phase_of}
 use Rattle.crash_simulation.proofs.CommitSimulation.{commit_stutters}
 use Rattle.crash_simulation.proofs.LoadFreeEnvironment.{bare, bare_agrees, bare_meets, bare_answers, placed}
+use Rattle.crash_simulation.proofs.ChosenNodes.{plain_after_lock, plain_after_unlock}
 use Rattle.crash_simulation.proofs.GraphAfterBegin.{alone}
 use Rattle.crash_simulation.proofs.OwnHartSteps.{view, same_number}
 use Rattle.crash_simulation.proofs.StepsAfterMarks.{entry_soon, core_less, whole_soon, most_is, fits_by}
@@ -277,9 +278,9 @@ module _ (y : System) (s : IsSystem y) (w : World) (h : ℕ) (stands : Simulates
 
     -- resumed a lock or an unlock, whose code leads to the node
     runs_after : (from : ℕ) (is : Node) → IsNodeOf code.thread from → NodeAt y.plan.graph from is → Contains (successors is.action) graph_thread.at →
-        is.action ≢ End → GoesOnFrom from graph_thread.at y.plan code.thread → IsHere (places.after from) →
-        IsRunningThread y resumed b code ghost go.after graph_thread
-    runs_after from is own found follows other leads at =
+        is.action ≢ End → ¬ (IsChosen y.plan.graph y.plan.boundaries graph_thread.at) → GoesOnFrom from graph_thread.at y.plan code.thread →
+        IsHere (places.after from) → IsRunningThread y resumed b code ghost go.after graph_thread
+    runs_after from is own found follows other plain leads at =
         let environment = bare y s resumed h below in
         let seen = seen_by (kept_of y b) graph_thread in
         let fragment = leads y.runs.program code.program code.is resumed n environment seen side go.after.registers
@@ -292,7 +293,7 @@ module _ (y : System) (s : IsSystem y) (w : World) (h : ℕ) (stands : Simulates
           at_side = λ some. refl;
           fragment = subst (IsOnFragment y.plan code.thread places (on_machine y.runs.program resumed n environment) _ fragment.steps) (sym none)
               (fragments_see_all y.plan code.thread places y.runs.program resumed n environment _ fragment.steps [] (now_of y b).variables fragment.on);
-          fits = (goes, go.told.goes_on);
+          fits = (goes, go.told.goes_on, λ chosen. absurd (plain chosen));
           soon =
               let fit = fits_by y s h below from is own found graph_thread.at of_thread follows other in
               let no_cleans : cleans_in (seen_effects (ghost.cleans ++ ghost.rest)) ≡ 0 = ap (λ (es : List Effect). cleans_in (seen_effects es)) none in
@@ -303,10 +304,12 @@ module _ (y : System) (s : IsSystem y) (w : World) (h : ℕ) (stands : Simulates
     runs_by _ (at_chosen chosen) at = runs_at_core at
     runs_by _ (past_lock from lock is own found locks) at =
         runs_after from is own found (subst (λ (z : Action). Contains (successors z) graph_thread.at) (sym locks) (0, omega arith, refl)) (λ ends. cc)
+        (plain_after_lock y s from graph_thread.at is lock found locks)
         (locks_go_on y.plan code.thread from graph_thread.locals (lock_number graph_thread.locals lock) graph_thread.at
         (record { own = own; is = is; at = found; lock = lock; locks = locks; number = refl })) at
     runs_by _ (past_unlock from lock is own found unlocks holds) at =
         runs_after from is own found (subst (λ (z : Action). Contains (successors z) graph_thread.at) (sym unlocks) (0, omega arith, refl)) (λ ends. cc)
+        (plain_after_unlock y s from graph_thread.at is lock found unlocks)
         (unlocks_go_on y.plan code.thread from graph_thread.locals (lock_number graph_thread.locals lock) graph_thread.at
         (record { own = own; is = is; at = found; lock = lock; unlocks = unlocks; number = refl })) at
 

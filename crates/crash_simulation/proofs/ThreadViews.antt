@@ -107,8 +107,8 @@ module _ (y : System) {m next : Config} {thread : ℕ} {c new : ThreadGhost} (st
   bounded_on graph_thread giving Before After h4 h5 = grind arith
 
   pub exit_on : (graph_thread : GraphThread) (exit : ExitPoint) → ExitInv y m thread c graph_thread exit → ExitInv y next thread new graph_thread exit
-  exit_on graph_thread Arrives f = (goes_on f.0, f.1)
-  exit_on graph_thread Keeps f = (f.0, still.begun ∙ (f.1 ∙ sym still.done), bounded_on graph_thread _ _ _ (λ u. u) f.2)
+  exit_on graph_thread Arrives f = (goes_on f.0, f.1, λ chosen. (let some = f.2 chosen in omega (arith, some, still.begun)))
+  exit_on graph_thread Keeps f = (f.0, still.begun ∙ (f.1 ∙ sym still.done), bounded_on graph_thread _ _ _ (λ some. omega (arith, some, still.begun)) f.2)
   exit_on graph_thread (Asks mutex at) f = clean_on false graph_thread f
   exit_on graph_thread (Took from) f = bounded_on graph_thread _ _ _ (λ l. (l.0, still.locked l.0 l.1)) f
   exit_on graph_thread (Gives from mutex) f = bounded_on graph_thread _ _ _ (still.unlocked mutex) f

@@ -4,6 +4,7 @@ pub mod StepsToMark
 pub mod ThreadGhosts
 pub mod SimulationRelation
 pub mod BoundaryFences
+pub mod BoundaryPassages
 pub mod InstructionSteps
 pub mod ReleasedSections
 pub mod AccountRelation

@@ -93,10 +93,12 @@ module _ (y : System) (m : Config) (thread : ℕ) (c : ThreadGhost) where
     pub before : c.committed ≡ false → Before
     pub after : c.committed ≡ true → steps_begun m thread ≡ 0
 
-  -- what is true of a thread in a fragment, by the fragment's exit point
+  -- what is true of a thread in a fragment, by the fragment's exit point: before a boundary that stands by choice a step is begun since the last boundary
   abbrev pub ExitInv : GraphThread → ExitPoint → Type 0
-  ExitInv graph_thread Arrives = IsInAttempt × (graph_thread.ended ≡ false)
-  ExitInv graph_thread Keeps = IsChosen y.plan.graph y.plan.boundaries graph_thread.at × IsGoing m thread × IsBounded graph_thread None (Unit {0})
+  ExitInv graph_thread Arrives =
+      IsInAttempt × (graph_thread.ended ≡ false) × (IsChosen y.plan.graph y.plan.boundaries graph_thread.at → 0 < steps_begun m thread)
+  ExitInv graph_thread Keeps =
+      IsChosen y.plan.graph y.plan.boundaries graph_thread.at × IsGoing m thread × IsBounded graph_thread None (0 < steps_begun m thread)
   ExitInv graph_thread (Asks mutex next) = GoesClean false graph_thread
   ExitInv graph_thread (Took from) = IsBounded graph_thread None ((mutex : ℕ) × HasLocked m thread mutex)
   ExitInv graph_thread (Gives from mutex) = IsBounded graph_thread (Some mutex) (HasUnlocked m thread mutex)

@@ -30,11 +30,12 @@ use Rattle.compiler_correctness.specs.Compilation.{HoldsAsThread}
 use Rattle.compiler_correctness.specs.Images.{world_from, image_of, file_of, image_in, Image}
 use Rattle.compiler_correctness.specs.Compilations.{IsCompilation}
 use Rattle.compiler_correctness.specs.Laws.{ImagesAreCrashes}
-use Rattle.deadlock_freedom.specs.Deadlocks.{HaveStopped, StopsAtTheEnd, NoneDeadlocks, NoneDeadlocksResumed}
+use Rattle.deadlock_freedom.specs.Deadlocks.{HaveStopped, StopsAtTheEnd, NoneDeadlocks, NoneDeadlocksResumed, StopsAreSettled}
 use Rattle.deadlock_freedom.proofs.HartReplies.{none_there}
 use Rattle.deadlock_freedom.proofs.Holders.{holders_go_on, harts_stay}
 use Rattle.deadlock_freedom.proofs.EnabledHarts.{each_waits, none_least, not_false}
 use Rattle.deadlock_freedom.proofs.LockChains.{WaitsFor, all_stopped, stopped_idles}
+use Rattle.deadlock_freedom.proofs.SettledStops.{settled}
 
 -- where a life begins, threads and locks are as at the source's start
 begins_as_start : (x : f.Flat) (s : State) (earlier : List (List ℕ)) → s ≡ record (start x) { variables = s.variables } →
@@ -80,23 +81,24 @@ module _ (ascend : LocksAscend) (c : Translation) (is : IsCompilation c) (formed
       (agree.holds_only call held owns) in
       subst (λ (n : ℕ). held < n) x.lock_is below
 
+  -- where the next step of each hart would wait or find it stopped, all have stopped
+  pub all_idle : ((h : ℕ) (hart : Hart) → slice_get w.harts h ≡ Some hart → is_idle (reply_to c.runs.program w (Step h)) ≡ true) → HaveStopped w
+  all_idle idles = all_stopped c.runs.program w (holders_go_on c.runs.log c.runs.program c.runs.mutexes c.runs.initial events) idles takes ascends
+    where
+      takes : (h : ℕ) (hart : Hart) → slice_get w.harts h ≡ Some hart → hart.phase ≡ Take → reply_to c.runs.program w (Step h) ≡ Moved
+      takes h hart here = ((is.records events).each h hart here).takes
+
   module _ (life : LifeConfig) (runs_is : life.runs ≡ c.runs) (world_is : life.world ≡ w) where
     same : (h : ℕ) → reply_to life.runs.program life.world (Step h) ≡ reply_to c.runs.program w (Step h)
     same h = ap₂ (λ (r : Executable) (v : World). reply_to r.program v (Step h)) runs_is world_is
 
     forth : least_enabled living life (length life.runs.program) ≡ None → HaveStopped w
-    forth none = all_stopped c.runs.program w (holders_go_on c.runs.log c.runs.program c.runs.mutexes c.runs.initial events) idles takes ascends
-      where
-        idles : (h : ℕ) (hart : Hart) → slice_get w.harts h ≡ Some hart → is_idle (reply_to c.runs.program w (Step h)) ≡ true
-        idles h hart here =
-            let within : h < length w.harts = slice_get_within w.harts h hart here in
-            let count : length w.harts ≡ length c.runs.program = harts_stay c.runs.log c.runs.program c.runs.mutexes c.runs.initial events in
-            let below : h < length life.runs.program = omega (arith, within, count, ap (λ (r : Executable). length r.program) runs_is) in
-            let waits : is_enabled living life h ≡ false = each_waits living life (length life.runs.program) none h below in
-            not_false (is_idle (reply_to c.runs.program w (Step h))) (ap (λ (r : Reply). not (is_idle r)) (sym (same h)) ∙ waits)
-
-        takes : (h : ℕ) (hart : Hart) → slice_get w.harts h ≡ Some hart → hart.phase ≡ Take → reply_to c.runs.program w (Step h) ≡ Moved
-        takes h hart here = ((is.records events).each h hart here).takes
+    forth none = all_idle (λ h hart here.
+        let within : h < length w.harts = slice_get_within w.harts h hart here in
+        let count : length w.harts ≡ length c.runs.program = harts_stay c.runs.log c.runs.program c.runs.mutexes c.runs.initial events in
+        let below : h < length life.runs.program = omega (arith, within, count, ap (λ (r : Executable). length r.program) runs_is) in
+        let waits : is_enabled living life h ≡ false = each_waits living life (length life.runs.program) none h below in
+        not_false (is_idle (reply_to c.runs.program w (Step h))) (ap (λ (r : Reply). not (is_idle r)) (sym (same h)) ∙ waits))
 
     back : HaveStopped w → least_enabled living life (length life.runs.program) ≡ None
     back stopped =
@@ -118,3 +120,7 @@ none_deadlocks_resumed ascend crashes c is formed order before events =
     let same : world c (before ++ Crash ∷ events) ≡ world_from c (image_in c (file_of c (image_of c before))) events =
     sym (ap (λ (x : Image). world_from c x events) (is.in_file before).is_all ∙ (crashes c before events).world_is) in
     subst (StopsAtTheEnd c) same (stops ascend c is formed order (before ++ Crash ∷ events))
+
+pub stops_are_settled : LocksAscend → StopsAreSettled
+stops_are_settled ascend c is formed order events idles =
+    settled c events (is.whole events) (all_idle ascend c is formed order events (λ h hart here. idles h))

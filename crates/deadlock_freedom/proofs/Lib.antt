@@ -2,5 +2,6 @@ mod HartReplies
 mod Holders
 mod LockChains
 mod EnabledHarts
+mod SettledStops
 mod Compilations
 mod Worked

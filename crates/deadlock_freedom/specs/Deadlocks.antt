@@ -1,9 +1,11 @@
 -- No deadlock: whatever has happened, a hart can step unless all have stopped.
-use Rattle.std.specs.Prelude.{◌≡◌, ◌⊎◌, ◌↔◌, ℕ, List, length, slice_get, Some, None}
+use Rattle.std.specs.Prelude.{◌≡◌, ◌⊎◌, ◌↔◌, ℕ, List, length, slice_get, Some, None, true}
 use Rattle.machine_events.specs.declared.event.Event.{Event}
-use Rattle.machine_events.specs.Cores.{least_enabled}
+use Rattle.machine_events.specs.declared.event.Event.TheVariants.{Step}
+use Rattle.machine_events.specs.Cores.{is_idle, least_enabled}
+use Rattle.rv64_isa.specs.declared.object.Slot.{Slot}
 use Rattle.machine_model.specs.declared.phase.Phase.TheVariants.{Done, Ended}
-use Rattle.machine_model.specs.Machine.{World, Hart}
+use Rattle.machine_model.specs.Machine.{World, Hart, is_settled, reply_to}
 use Rattle.run_tracker.specs.ObjectLives.{LifeConfig, living}
 use Rattle.lock_order.specs.LockOrder.{order_fault}
 use Rattle.compiler_correctness.specs.Translations.{Translation, world}
@@ -29,3 +31,12 @@ NoneDeadlocks = (c : Translation) → IsCompilation c → IsWellFormed c.flat �
 abbrev pub NoneDeadlocksResumed : Type 0
 NoneDeadlocksResumed = (c : Translation) → IsCompilation c → IsWellFormed c.flat → order_fault c.flat ≡ None → (before events : List Event) →
     StopsAtTheEnd c (world_from c (image_in c (file_of c (image_of c before))) events)
+
+-- the next step of each hart would wait, or find it stopped
+abbrev pub NoneCanStep : List (List Slot) → World → Type 0
+NoneCanStep program w = (h : ℕ) → is_idle (reply_to program w (Step h)) ≡ true
+
+-- where no hart can step, all harts stand between sections, so that all variables are durable
+abbrev pub StopsAreSettled : Type 0
+StopsAreSettled = (c : Translation) → IsCompilation c → IsWellFormed c.flat → order_fault c.flat ≡ None → (events : List Event) →
+    NoneCanStep c.runs.program (world c events) → is_settled (world c events) ≡ true

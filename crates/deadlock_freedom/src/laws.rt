@@ -1,5 +1,5 @@
 //! Laws of compiled programs whose sources keep the order of locks.
-ghost use Rattle.deadlock_freedom.specs.Deadlocks.{NoneDeadlocks, NoneDeadlocksResumed};
+ghost use Rattle.deadlock_freedom.specs.Deadlocks.{NoneDeadlocks, NoneDeadlocksResumed, StopsAreSettled};
 
 use compiler_correctness::laws::images_are_crashes;
 use lock_order::laws::locks_ascend;
@@ -13,4 +13,11 @@ pub fn none_deadlocks()
 {
     locks_ascend();
     images_are_crashes();
+}
+
+/// Where no hart of such a compilation can step, each stands between sections.
+pub fn stops_are_settled()
+    ensures { StopsAreSettled }
+{
+    locks_ascend();
 }

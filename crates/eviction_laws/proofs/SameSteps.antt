@@ -21,7 +21,8 @@ use Rattle.machine_model.specs.declared.phase.Phase.{Phase}
 use Rattle.machine_model.specs.declared.phase.Phase.TheVariants.{Take, Wait, Resume, Run, Done, Ended}
 use Rattle.machine_model.specs.Machine.{Hart, World, Outcome, with_hart, moved, gone_on, stuck, drain_one, access, queue_limit, cleaned, fenced, with_holder}
 use Rattle.machine_model.specs.Machine.{acquired, released, ended, called, applied, executed, hart_step, over_after, done_if_over, run_step, phase_step, stepped}
-use Rattle.machine_model.specs.Machine.{has_stopped, happens, after_event, after_events, reply_to, start_of, started_anew, fresh_hart, numbers_from, anew, all_anew}
+use Rattle.machine_model.specs.Machine.{has_stopped, happens, after_event, after_events, reply_to, start_of, started_anew, fresh_hart, anew, all_anew}
+use Rattle.log_schemes.specs.Schemes.{numbers_from}
 use Rattle.machine_model.specs.Schedule.{KeepsOn, Steps, has_moved, is_running, completing, is_mark, passes_mark, with_begun, with_bound, with_kept, with_all_kept}
 use Rattle.machine_model.specs.Schedule.{with_step, stores_point, steps_after, steps_along, releases_last, released_after, released_along}
 use Rattle.machine_model.proofs.Public.{get-set_same, get-set_other, anew_found}

@@ -19,7 +19,7 @@ use Rattle.crash_simulation.specs.SimulationRelation.{Simulates}
 use Rattle.crash_simulation.proofs.Public.{GoesOn, event_goes_on, first_life, first_origin, has_begun, life_stands, phase_of, worlds_join}
 use Rattle.compiler_correctness.specs.Laws.{translation_of}
 use Rattle.compiler_correctness.specs.Translations.{GoOn, world}
-use Rattle.fence_counts.specs.FenceCounts.{crashes_in, AreFencesOfLife, AreFencesOfPoints, BeginsLife, EndedLivesFence, FencesFollowPoints}
+use Rattle.fence_counts.specs.FenceCounts.{crashes_in, AreFencesOfPoints, BeginsLife, FencesFollowPoints, opening}
 use Rattle.fence_counts.specs.FenceCounts.{first_begins, later_begins}
 use Rattle.fence_counts.proofs.UnbalancedLogs.{AreWithinOne, within_one}
 
@@ -192,8 +192,14 @@ module _ (fragments_step : FragmentsStep) (cores_step : CoresStep) (law : Fragme
     no_crashes (Crash ∷ life) on = absurd on.0
     no_crashes (Start ∷ life) on = absurd on.0
 
+    -- as many fences are finished in the life as boundaries have whose point is stored in it
+    abbrev pub HaveFences : (before life : List Event) → Type 0
+    HaveFences before life =
+        finished_fences living (record (opening (translation_of y)) { world = world (translation_of y) before }) life h
+        ≡ 2 * point_stores living (record (opening (translation_of y)) { world = world (translation_of y) before }) life h
+
     pub in_life : (before life : List Event) → BeginsLife (translation_of y) before → GoOn life → (hart : Hart) →
-        slice_get (world (translation_of y) (before ++ life)).harts h ≡ Some hart → hart.phase ≡ Ended → AreFencesOfLife (translation_of y) before life h
+        slice_get (world (translation_of y) (before ++ life)).harts h ≡ Some hart → hart.phase ≡ Ended → HaveFences before life
     in_life before life begin on hart here ended =
         let w = world (translation_of y) before in
         let b = begins before begin in
@@ -207,7 +213,3 @@ module _ (fragments_step : FragmentsStep) (cores_step : CoresStep) (law : Fragme
 
 pub fences_follow_points : FragmentsStep → CoresStep → FragmentsGoOn → FencesFollowPoints
 fences_follow_points fragments_step cores_step law y s events h below = from_start fragments_step cores_step law y s h (omega (arith, below, s.count)) events
-
-pub lives_fence : FragmentsStep → CoresStep → FragmentsGoOn → EndedLivesFence
-lives_fence fragments_step cores_step law y s before life h below begin on hart here ended =
-    in_life fragments_step cores_step law y s h (omega (arith, below, s.count)) before life begin on hart here ended

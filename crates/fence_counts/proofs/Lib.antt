@@ -1,2 +1,4 @@
 mod UnbalancedLogs
 mod FencesAlong
+mod EndedThreads
+mod PassagesAlong

@@ -7,10 +7,13 @@ use Rattle.machine_model.specs.Executables.{first_world}
 use Rattle.machine_model.specs.Machine.{Hart}
 use Rattle.machine_model.specs.Schedule.{begins_life, only_life}
 use Rattle.machine_model.specs.declared.phase.Phase.TheVariants.{Ended}
+use Rattle.flow_graph.specs.Lowering.{lowered}
+use Rattle.flow_graph.specs.Actions.{FlowState}
 use Rattle.run_tracker.specs.ObjectLives.{LifeConfig, living}
 use Rattle.crash_simulation.specs.Systems.{System, IsSystem}
 use Rattle.crash_simulation.specs.BoundaryFences.{boundary_fences}
-use Rattle.compiler_correctness.specs.Translations.{GoOn, Translation, world}
+use Rattle.crash_simulation.specs.BoundaryPassages.{graph_anew, passages}
+use Rattle.compiler_correctness.specs.Translations.{GoOn, Translation, source_at, steps, world}
 use Rattle.compiler_correctness.specs.Laws.{translation_of}
 
 -- how often power is lost
@@ -49,11 +52,19 @@ pub data BeginsLife (c : Translation) : List Event → Type 0 where
   first_begins : BeginsLife c []
   later_begins : (before : List Event) → begins_life (world c before) Start ≡ true → BeginsLife c (before ++ Start ∷ [])
 
--- by the events of a life, from where it begins on, the hart has finished as many fences as the boundaries have whose point it has stored
-abbrev pub AreFencesOfLife : Translation → (before life : List Event) → (h : ℕ) → Type 0
-AreFencesOfLife c before life h =
-    finished_fences living (record (opening c) { world = world c before }) life h
-    ≡ boundary_fences c.runs.log * point_stores living (record (opening c) { world = world c before }) life h
+-- where it begins: the source's graph at its start, with the variables that the lives before have left
+abbrev pub life_start : Translation → (before : List Event) → FlowState
+life_start c before = graph_anew c.flat (source_at c (steps c before).earlier).variables
+
+-- how many boundaries the hart's thread passes by the steps that the life has begun: by its locks and unlocks, and at nodes before which one stands by choice
+abbrev pub boundaries_passed : Translation → (before life : List Event) → (h : ℕ) → ℕ
+boundaries_passed c before life h = passages (lowered c.flat) c.boundaries (life_start c before) (steps c (before ++ life)).begun h
+
+-- by the events of a life, from where it begins on, the hart has stored the point of each boundary that its thread has passed, and finished just their fences
+pub record AreFencesOfLife (c : Translation) (before life : List Event) (h : ℕ) : Type 0 where
+  pub points : point_stores living (record (opening c) { world = world c before }) life h ≡ boundaries_passed c before life h
+  pub fences : finished_fences living (record (opening c) { world = world c before }) life h
+      ≡ boundary_fences c.runs.log * boundaries_passed c before life h
 
 -- a life in which power stays on, of each of its harts that has ended
 abbrev pub EndedLivesFence : Type 0

@@ -6,13 +6,15 @@ use Rattle.std.proofs.lemmas.List.{length-map}
 use Rattle.std.proofs.lemmas.Option.{none-some, same_Some}
 use Rattle.ido_base.specs.declared.limits.TheConstants.{MOST_CODE_WORDS, MOST_VARIABLE_BYTES}
 use Rattle.log_schemes.specs.declared.log.Log.{Log}
-use Rattle.log_schemes.specs.declared.log.Log.TheVariants.{V1, V2}
+use Rattle.log_schemes.specs.declared.keeping.Keeping.{Keeping}
+use Rattle.log_schemes.specs.declared.keeping.Keeping.TheVariants.{Masked, Listed}
 use Rattle.ido_base.specs.Layout.{end_from}
 use Rattle.c_tree.specs.Flats as f
 use Rattle.c_tree.specs.WellFormed.{shape_of}
 use Rattle.rv64_isa.specs.Programs.{code_base, slot_of}
 use Rattle.machine_model.specs.Objects.{program_of}
-use Rattle.hart_core.specs.Objects.{IsWithinLimits, most_locks}
+use Rattle.hart_core.specs.Objects.{IsWithinLimits}
+use Rattle.log_schemes.specs.Schemes.{keeping_of, most_kept, most_locks}
 use Rattle.flow_graph.specs.declared.graph.Part.{Part}
 use Rattle.flow_graph.specs.Nodes.{Graph}
 use Rattle.flow_graph.specs.Lowering.{part, parts, statements_count, thread_count}
@@ -61,9 +63,12 @@ module _ (s : System) (is : IsSystem s) (n : ℕ) (below : n < y.thread_count s)
       omega (arith, core, after, all, inside, mine)
 
 -- as many locks as the log has room for in a program
-locks_few : (p : Plan) → IsPlan p → (log : Log) → p.log ≡ log → length p.flat.mutexes ≤ most_locks log
-locks_few p plan V1 is = (plan.plain is).few
-locks_few p plan V2 is = plan.formed.shared.mutexes
+locks_few : (p : Plan) → IsPlan p → length p.flat.mutexes ≤ most_locks p.log
+locks_few p plan = by (keeping_of p.log) refl
+  where
+    by : (k : Keeping) → keeping_of p.log ≡ k → length p.flat.mutexes ≤ most_kept k
+    by Masked is = (plan.plain is).few
+    by Listed is = plan.formed.shared.mutexes
 
 -- ---- Objects
 
@@ -101,7 +106,7 @@ module _ {p : Plan} (plan : IsPlan p) (linked_code : LinkedCode p) where
   pub within_limits : IsWithinLimits object
   within_limits =
       let locks : length p.flat.mutexes ≤ most_locks object.log =
-      subst (λ (l : Log). length p.flat.mutexes ≤ most_locks l) logs (locks_few p plan p.log refl) in
+      subst (λ (l : Log). length p.flat.mutexes ≤ most_locks l) logs (locks_few p plan) in
       let end = end_from 0 (map shape_of p.flat.variables) in
       let room : end ≤ MOST_VARIABLE_BYTES = plan.formed.shared.bytes in
       let size : length object.initial.items ≡ (end + 8 - 1) / 8 * 8 = begins.size in

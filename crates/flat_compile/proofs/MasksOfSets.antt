@@ -13,7 +13,7 @@ use Rattle.c_tree.specs.LockNames.{Held, held_names, lock_names, plain_names}
 use Rattle.c_tree.specs.Values.{lock_number}
 use Rattle.c_tree.specs.WellFormed.{IsSingle}
 use Rattle.c_tree.proofs.Public.{length-plain_names, names_are_plain}
-use Rattle.boundary_code.specs.Boundaries.{AreOfMask}
+use Rattle.log_schemes.specs.Schemes.{AreOfMask}
 use Rattle.lock_discipline.specs.HeldSetsByStep.{AreAllSetsOf, AreSetsOf}
 use Rattle.lock_discipline.proofs.Public.{held_length}
 use Rattle.flow_graph.proofs.Public.{found_in}

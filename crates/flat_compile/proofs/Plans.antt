@@ -8,7 +8,8 @@ use Rattle.std.proofs.lemmas.List.{length-map}
 use Rattle.std.proofs.lemmas.List.Elements.{All-head, All-tail, recursion_from_All}
 use Rattle.std.proofs.lemmas.Option.{none-some, same_Some, slice_get_within}
 use Rattle.log_schemes.specs.declared.log.Log.{Log}
-use Rattle.log_schemes.specs.declared.log.Log.TheVariants.{V1, V2}
+use Rattle.log_schemes.specs.declared.keeping.Keeping.{Keeping}
+use Rattle.log_schemes.specs.declared.keeping.Keeping.TheVariants.{Masked, Listed}
 use Rattle.ido_base.specs.declared.limits.TheConstants.{MOST_THREADS, MOST_CODE_WORDS}
 use Rattle.c_tree.specs.declared.language.Language.TheVariants.{Full}
 use Rattle.c_tree.specs.declared.language.TheConstants.{MOST_HELD}
@@ -30,7 +31,7 @@ use Rattle.rv64_link.specs.LinkedCode.{AreLinked}
 use Rattle.rv64_link.specs.links.Threads.{items_in}
 use Rattle.c_tree.specs.WellFormed.{ArePlain, initial_numbers, shape_of}
 use Rattle.memory_layout.specs.Variables.{AreInitial}
-use Rattle.boundary_code.specs.Boundaries.{HaveRoom}
+use Rattle.log_schemes.specs.Schemes.{HaveRoom, HasRoom, keeping_of}
 use Rattle.lock_discipline.specs.Discipline.{WalkIsDiscipline}
 use Rattle.lock_discipline.specs.HeldSetsByStep.{AreAllSetsOf, AreSetsOf, HeldBefore, HoldsFew}
 use Rattle.lock_discipline.specs.NamedForms.{HasNames}
@@ -46,7 +47,7 @@ use Rattle.flat_analysis.specs.declared.analyses.Analysis.{Analysis}
 use Rattle.flat_analysis.specs.Analyses.{IsAnalysis}
 use Rattle.flat_analysis.specs.CompilableForms.{IsAcceptedForm}
 use Rattle.flat_analysis.proofs.Public.{held_keys_are_live}
-use Rattle.thread_code.specs.Plans.{Plan, IsPlan, Thread, IsThread, IsNodeOf, names_in, set_before, language_of}
+use Rattle.thread_code.specs.Plans.{Plan, IsPlan, Thread, IsThread, IsNodeOf, names_in, set_before, language_kept, language_of}
 use Rattle.thread_code.proofs.Public.{names_are}
 use Rattle.rv64_codegen.specs.StoreCleans.{AllCleanAtOnce}
 use Rattle.rv64_codegen.specs.ThreadPieces.{IsCode}
@@ -113,18 +114,24 @@ module _ (law : WalkIsDiscipline) (x : Flat) (named : HasNames x) (faultless : l
       (found_or row step [])
 
 -- a bank has room for each set
-room_for : WalkIsDiscipline → (log : Log) (x : Flat) → IsAcceptedForm (language_of log) x → (sets : List (List Held)) → AreAllSetsOf x sets →
+room_as : WalkIsDiscipline → (k : Keeping) (x : Flat) → IsAcceptedForm (language_kept k) x → (sets : List (List Held)) → AreAllSetsOf x sets →
     (locals : List ℤ) (thread step : ℕ) →
-    HaveRoom log (map (lock_number locals) (held_names (slice_index_or (map (λ (t : f.Thread). lock_names x t) x.threads) thread [])
+    HasRoom k (map (lock_number locals) (held_names (slice_index_or (map (λ (t : f.Thread). lock_names x t) x.threads) thread [])
     (slice_index_or (slice_index_or sets thread []) step [])))
-room_for law V1 x accepted sets all locals thread step =
+room_as law Masked x accepted sets all locals thread step =
     let plain : ArePlain x.mutexes = accepted.plain refl in
     of_mask x plain.single (omega (arith, plain.few)) sets all locals thread step
-room_for law V2 x accepted sets all locals thread step =
+room_as law Listed x accepted sets all locals thread step =
     let set : Held = slice_index_or (slice_index_or sets thread []) step [] in
     let names : List LockName = slice_index_or (map (λ (t : f.Thread). lock_names x t) x.threads) thread [] in
     let most : count_held set ≤ MOST_HELD = few_of law x accepted.named accepted.disciplined sets all thread step in
     omega (arith, most, few_numbers locals names set)
+
+room_for : WalkIsDiscipline → (log : Log) (x : Flat) → IsAcceptedForm (language_of log) x → (sets : List (List Held)) → AreAllSetsOf x sets →
+    (locals : List ℤ) (thread step : ℕ) →
+    HaveRoom log (map (lock_number locals) (held_names (slice_index_or (map (λ (t : f.Thread). lock_names x t) x.threads) thread [])
+    (slice_index_or (slice_index_or sets thread []) step [])))
+room_for law log x accepted sets all locals thread step = room_as law (keeping_of log) x accepted sets all locals thread step
 
 -- ---- Held keys
 
@@ -182,7 +189,7 @@ plan_is law log a cuts is chosen places = record {
   keys_live = keys_live log a cuts is;
   registers = is.registers;
   apart = is.apart;
-  plain = λ masks. is.accepted.plain (ap language_of masks);
+  plain = λ masks. is.accepted.plain (ap language_kept masks);
   priced = is.accepted.priced;
   room = λ t locals node. room_for law log (flat_of a.flat.now) is.accepted a.held is.held locals t.number (node - t.part.first);
 }

@@ -1,6 +1,6 @@
 -- Seats that are dealt, one after another.
-use Rattle.std.proofs.Common.{◌≡◌, ℕ, zero, suc, ◌+◌, ◌<◌, List, [], ◌∷◌, ◌++◌, length, None, Some, ◌^◌, Option, sym, refl, ap, ◌∙◌, subst, arith}
-use Rattle.std.proofs.Common.{get_or, ◌⊎◌, ⊎_elim}
+use Rattle.std.proofs.Common.{◌≡◌, ℕ, zero, suc, ◌+◌, ◌<◌, List, [], ◌∷◌, ◌++◌, length, Some, ◌^◌, Option, sym, refl, ap, ◌∙◌, subst, arith}
+use Rattle.std.proofs.Common.{get_or}
 use Rattle.std.specs.Prelude.{All}
 use Rattle.std.proofs.lemmas.List.{map-append, length-map}
 use Rattle.std.proofs.lemmas.List.Elements.{All-push}
@@ -70,17 +70,11 @@ module _ {C L : Type 0} (history : C → List Event) (space : C → ℕ) (runs :
 pub row_length : {C L : Type 0} (xs : List (Seat C L)) (n : ℕ) → numbers_of xs ≡ numbers_from 0 n → length xs ≡ n
 row_length xs n numbers = sym (length-map xs number) ∙ (ap length numbers ∙ count_from 0 n)
 
--- what holds of each place holds of a list with an element more
-pub grows : {A : Type 0} (P : ℕ → A → Type 0) (d : A) (xs : List A) (a : A) → ((n : ℕ) → P n d) → ((n : ℕ) → P n (get_or xs n d)) → P (length xs) a → (n : ℕ) →
-    P n (get_or (xs ++ a ∷ []) n d)
-grows P d [] a none each last zero = last
-grows P d [] a none each last (suc n) = none (suc n)
-grows P d (x ∷ xs) a none each last zero = each zero
-grows P d (x ∷ xs) a none each last (suc n) = grows (λ m. P (suc m)) d xs a (λ m. none (suc m)) (λ m. each (suc m)) last n
-
--- and of one from which something was taken
-pub taken_all : {A : Type 0} (P : ℕ → Option A → Type 0) → ((n : ℕ) → P n None) → (xs ys : List (Option A)) → ((n : ℕ) → P n (get_or xs n None)) →
-    ((n : ℕ) → (get_or ys n None ≡ get_or xs n None) ⊎ (get_or ys n None ≡ None)) → (n : ℕ) → P n (get_or ys n None)
-taken_all P none xs ys each others n =
-    ⊎_elim (λ (e : get_or ys n None ≡ get_or xs n None). subst (P n) (sym e) (each n))
-    (λ (e : get_or ys n None ≡ None). subst (P n) (sym e) (none n)) (others n)
+-- what holds of each place of a list, and of the next one, holds of the list with an element more
+pub grows : {A : Type 0} (P : ℕ → A → Type 0) (d : A) (xs : List A) (a : A) → ((n : ℕ) → n < length xs → P n (get_or xs n d)) → P (length xs) a → (n : ℕ) →
+    n < length xs + 1 → P n (get_or (xs ++ a ∷ []) n d)
+grows P d [] a each last zero below = last
+grows P d [] a each last (suc n) below = absurd (omega (arith, below))
+grows P d (x ∷ xs) a each last zero below = each zero (omega arith)
+grows P d (x ∷ xs) a each last (suc n) below =
+    grows (λ m. P (suc m)) d xs a (λ m inside. each (suc m) (omega (arith, inside))) last n (omega (arith, below))

@@ -7,6 +7,7 @@ mod FirstState
 mod JoinsKeepInv
 mod CoreTurns
 mod MadeEvents
+mod StepsAhead
 mod ServedTurns
 mod TriedTurns
 mod Dealing

@@ -13,15 +13,12 @@ use Rattle.hart_board.specs.declared.core_turn.Quota.{Quota}
 use Rattle.hart_board.specs.declared.core_turn.Made.{Made}
 use Rattle.hart_board.specs.declared.seat.Seat.{Seat}
 use Rattle.hart_board.specs.Journals.{events_of, made_by, IsOwn, IsTurn, IsLegal, last_reply}
-use Rattle.hart_board.specs.CoreTurns.{IsPlayed, TurnGives, IsWithin, events_made, count_made, made_entry}
+use Rattle.hart_board.specs.CoreTurns.{BeginsAt, IsPlayed, TurnGives, IsWithin, events_made, count_made, made_entry}
 use Rattle.hart_board.specs.BoardRule.{IsPlayOf, play_of, turn_of, with_turn}
-use Rattle.hart_board.specs.Seats.{Represents, HasTicket, IsInTurn, IsInReach}
+use Rattle.hart_board.specs.Seats.{BeginsAgain, Represents, HasTicket, IsInTurn, IsInReach, quota_of, seen_in}
 use Rattle.hart_board.proofs.StepsKeepInv.{is_seated}
 use Rattle.hart_board.proofs.Journals.{legal_more}
 use Rattle.hart_board.proofs.CoreTurns.{turn_is, is_turn, last_is, goes_after, legal_under, made_more, count_is}
-
-abbrev pub quota_of : {C L : Type 0} → Seat C L → Quota
-quota_of s = record { seat = s.number; made = s.made; turns = s.turns; ceiling = s.ceiling }
 
 pub is_within : {C M : Type 0} (b : Behaviour M) (opening : C → M) (history : C → List Event) (hart_count : C → ℕ) (core : C) (q : Quota) (event : Event)
     (most : ℕ) (result : Option Made)
@@ -39,7 +36,7 @@ still_valid opening history hart_count space evictable from to events Crash p v 
 still_valid opening history hart_count space evictable from to events Start p v = absurd v
 
 module _ {C L : Type 0} (m : Ghosts C L) where
-  open m use {behaviour as b, opening, history, hart_count, space, evictable}
+  open m use {behaviour as b, opening, history, hart_count, space, evictable, is_at_beginning}
 
   abbrev Turning : Seat C L → Known C → C → Type 0
   Turning s k core = IsInTurn (play_of b opening history hart_count) (IsPlayOf opening history hart_count space evictable) s k core
@@ -133,3 +130,16 @@ module _ {C L : Type 0} (m : Ghosts C L) where
         represents_after event most result h' reach' own' acted.2 acted.3 t acted.1 number turns ceiling made none,
         legal_after event most result h' reach' own' acted.2 acted.3,
       )
+
+  -- what runs ahead has begun again at the core that the turn leaves
+  pub begins_after : (s : Seat C L) (k : Known C) (core new : C) (event : Event) (result : Option Made) (t : Seat C L) → Turning s k core →
+      Represents t (with_turn k (made_entry s.number event result)) → IsPlayed opening history hart_count space evictable core (events_made event result) new →
+      BeginsAt is_at_beginning new t.number t.local → BeginsAgain (IsPlayOf opening history hart_count space evictable k.terms) is_at_beginning t
+  begins_after s k core new event result t h represents q begins = record {
+    core = new;
+    plays =
+        subst (λ (z : List Entry). IsPlayOf opening history hart_count space evictable k.terms (events_of z) new)
+        (sym (ap (λ (m : Me C (View C)). seen_in m.0) represents.me))
+        (goes_after b opening history hart_count space evictable k core new (made_entry s.number event result) h.plays q);
+    begins = begins;
+  }

@@ -139,7 +139,7 @@ seat_after history space runs board s t l h terms represents table number ahead 
   ahead = ahead;
 }
 
-seen_is : {C L : Type 0} (s : Seat C L) (k : Known C) (cs : List (ℕ × C)) → s.place.me ≡ (Seated k, cs) → seen s ≡ k.seen
+pub seen_is : {C L : Type 0} (s : Seat C L) (k : Known C) (cs : List (ℕ × C)) → s.place.me ≡ (Seated k, cs) → seen s ≡ k.seen
 seen_is s k cs me = ap (λ (m : Me _ (View _)). seen_in m.0) me
 
 module _ {C L M : Type 0} (b : Behaviour M) (opening : C → M) (history : C → List Event) (hart_count space : C → ℕ) where

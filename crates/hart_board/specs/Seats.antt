@@ -1,5 +1,6 @@
 -- What a seat knows between two calls, and what a call adds.
-use Rattle.std.specs.Prelude.{◌≡◌, ◌≢◌, ℕ, ◌+◌, ◌%◌, ◌^◌, ◌<◌, ◌≤◌, List, [], ◌∷◌, ◌++◌, length, map, replicate, All, true, false, Option, Some, None}
+use Rattle.std.specs.Prelude.{◌≡◌, ◌≢◌, ℕ, ◌+◌, ◌-◌, ◌%◌, ◌^◌, ◌<◌, ◌≤◌, List, [], ◌∷◌, ◌++◌, length, map, min, replicate, All}
+use Rattle.std.specs.Prelude.{Bool, true, false, Option, Some, None}
 use mathlib.Core.List.{IsPrefix}
 use Rattle.atomic_table.specs.Seated.{TableId}
 use Rattle.machine_events.specs.declared.event.Event.{Event}
@@ -20,6 +21,8 @@ use Rattle.hart_board.specs.declared.seat.TryTurn.TheVariants.{Did, Over, Later}
 use Rattle.hart_board.specs.Journals.{Play, play_from, events_of, entries_by, made_by, IsLegal}
 use Rattle.hart_board.specs.declared.core_turn.Ahead.{Ahead}
 use Rattle.hart_board.specs.declared.core_turn.Made.{Made}
+use Rattle.hart_board.specs.declared.core_turn.Quota.{Quota}
+use Rattle.hart_board.specs.CoreTurns.{Adopts, BeginsAt, HasComeTo, RunsOn}
 use Rattle.hart_board.specs.BoardRule.{Has}
 
 -- ---- Seats and what they know
@@ -187,6 +190,55 @@ answer_of (Some made) = Did made.count made.last
 abbrev pub TurnTells : {C L : Type 0} → Rules → Event → (most : ℕ) → Turn → (old new : Seat C L) → Type 0
 TurnTells r event most (turn.Did events last) old new = DoesTurn r (number old) event most events last (seen old) (seen new)
 TurnTells r event most turn.Over old new = TakesTurn r (over_entry (number old)) (seen old) (seen new)
+
+-- ---- What is run ahead of a seat's hart
+
+module _ {C L : Type 0} where
+  -- what the seat may make of a core's events
+  abbrev pub quota_of : Seat C L → Quota
+  quota_of s = record { seat = s.number; made = s.made; turns = s.turns; ceiling = s.ceiling }
+
+  -- how many events the seat's next turn may have, where it is asked for so many at most
+  abbrev pub turn_limit : (most : ℕ) → Seat C L → ℕ
+  turn_limit most s = min most (s.turns - s.made)
+
+  -- what runs ahead begins at the seat's hart as it is after all turns that the seat has seen
+  pub record BeginsAgain (is_play : List Event → C → Type 0) (is_at_beginning : C → ℕ → L → Type 0) (s : Seat C L) : Type 0 where
+    pub core : C
+    pub plays : is_play (events_of (seen s)) core
+    pub begins : BeginsAt is_at_beginning core s.number s.local
+
+  module _ (history : C → List Event) (is_at_beginning : C → ℕ → L → Type 0) (goes_ahead : L → Bool) where
+    -- what ran ahead of the seat's hart has run on: as far as the next turn may go, or as it can
+    pub record RanAhead (most : ℕ) (s : Seat C L) (ahead : Option (Ahead L)) : Type 0 where
+      pub on : RunsOn is_at_beginning (turn_limit most s) s.local ahead
+      pub far : HasComeTo goes_ahead (turn_limit most s) ahead
+
+    -- a turn of so many events was taken
+    pub record TookAhead (is_play : List Event → C → Type 0) (most count : ℕ) (old new : Seat C L) : Type 0 where
+      -- the turns before it, and the core that they have made
+      pub before : List Entry
+      pub last : Entry
+      pub seen_is : seen new ≡ before ++ last ∷ []
+      pub core : C
+      pub plays : is_play (events_of before) core
+      -- what had run ahead, with which the turn begins
+      pub ahead : Option (Ahead L)
+      pub ran : RanAhead most old ahead
+      pub adopts : Adopts history is_at_beginning core (quota_of old) most ahead count
+      -- it begins again after the turn
+      pub again : BeginsAgain is_play is_at_beginning new
+
+    -- what a try at a turn does with what runs ahead. Where the seat waits it runs on, and stays
+    abbrev pub TryAhead : (is_play : List Event → C → Type 0) → (most : ℕ) → TryTurn → (old new : Seat C L) → Type 0
+    TryAhead is_play most (Did events last) old new = TookAhead is_play most events old new
+    TryAhead is_play most Over old new = TookAhead is_play most 0 old new
+    TryAhead is_play most (Later drawn serving) old new = RanAhead most old new.local × (quota_of new ≡ quota_of old)
+
+    -- what a turn does with it
+    abbrev pub TurnAhead : (is_play : List Event → C → Type 0) → (most : ℕ) → Turn → (old new : Seat C L) → Type 0
+    TurnAhead is_play most (turn.Did events last) old new = TookAhead is_play most events old new
+    TurnAhead is_play most turn.Over old new = TookAhead is_play most 0 old new
 
 -- ---- All seats of a board
 

@@ -8,7 +8,7 @@ ghost use Rattle.hart_board.specs.declared.views.Known.{Known};
 ghost use Rattle.hart_board.specs.declared.views.View.{View};
 ghost use Rattle.hart_board.specs.declared.views.View.TheVariants.{Seated};
 ghost use Rattle.hart_board.specs.Journals.{IsTurn, events_of, IsOwn};
-ghost use Rattle.hart_board.specs.CoreTurns.{IsPlayed, RunsIn, TurnGives, events_made};
+ghost use Rattle.hart_board.specs.CoreTurns.{Adopts, BeginsAt, IsPlayed, RunsIn, TurnGives, count_made, events_made};
 ghost use Rattle.hart_board.specs.BoardRule.{drew, looked, saw, passed, turn_of, play_of, IsPlayOf, Has, met, beside, Closed};
 ghost use Rattle.machine_events.specs.Cores.{IsValid};
 
@@ -99,7 +99,8 @@ impl<C: Core> Board<C> {
         ensures acted { (v : View C) (core : C) → place.old.me ≡ (v, (0, core) ∷ []) → (new : C) × (place.new.me ≡ (v, (0, new) ∷ []))
             × IsPlayed C.opening C.history C.hart_count C.space C.evictable core (events_made event result) new
             × TurnGives C.behaviour C.opening C.history C.hart_count core quota event most result
-            × RunsIn C.opening C.hart_count C.is_local C.ahead_by core quota.seat ahead.new }
+            × RunsIn C.opening C.hart_count C.is_local C.ahead_by core quota.seat ahead.new
+            × Adopts C.history C.is_at_beginning core quota most ahead.old (count_made result) × BeginsAt C.is_at_beginning new quota.seat ahead.new }
     {
         let core = place.slot_mut(&self.table.shared, 0);
         take_turn(core, event, most, quota, ahead)

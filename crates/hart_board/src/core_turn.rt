@@ -1,6 +1,7 @@
 //! A turn at a core: one event, made again and again.
 ghost use Rattle.std.specs.Prelude.{◌≡◌, ◌+◌, ◌<◌, ◌≤◌, ◌↔◌, [], ℕ, length, replicate, true, Some, MatchOption};
-ghost use Rattle.hart_board.specs.CoreTurns.{IsPlayed, IsDone, Makes, TurnGives, RunsAhead, RunsIn, events_made};
+ghost use Rattle.hart_board.specs.CoreTurns.{IsPlayed, IsDone, Makes, TurnGives, count_made, events_made};
+ghost use Rattle.hart_board.specs.CoreTurns.{Adopts, BeginsAt, HasComeTo, RunsAhead, RunsIn, RunsOn};
 ghost use Rattle.machine_events.specs.declared.event.Event.TheVariants.{Step};
 ghost use Rattle.hart_board.specs.Journals.{IsOwn};
 ghost use Rattle.machine_events.specs.Cores.{IsValid, is_idle};
@@ -64,7 +65,9 @@ pub(crate) fn take_turn<C: Core>(
     requires ahead { RunsIn C.opening C.hart_count C.is_local C.ahead_by core.old quota.seat ahead.old }
     ensures played { IsPlayed C.opening C.history C.hart_count C.space C.evictable core.old (events_made event result) core.new }
     ensures turn { TurnGives C.behaviour C.opening C.history C.hart_count core.old quota event most result }
+    ensures adopts { Adopts C.history C.is_at_beginning core.old quota most ahead.old (count_made result) }
     ensures ahead { RunsIn C.opening C.hart_count C.is_local C.ahead_by core.old quota.seat ahead.new }
+    ensures begins { BeginsAt C.is_at_beginning core.new quota.seat ahead.new }
 {
     let made = make_events(core, event, most, quota, ahead);
     begin_again(core, quota.seat, ahead);
@@ -87,6 +90,7 @@ fn adopt_or_make<C: Core>(
     requires ahead { RunsIn C.opening C.hart_count C.is_local C.ahead_by core.old quota.seat ahead.now }
     ensures played { IsPlayed C.opening C.history C.hart_count C.space C.evictable core.old (events_made event result) core.new }
     ensures turn { TurnGives C.behaviour C.opening C.history C.hart_count core.old quota event most result }
+    ensures adopts { Adopts C.history C.is_at_beginning core.old quota most ahead.now (count_made result) }
 {
     if let Some(made) = adopt(core, most, quota, ahead) {
         return Some(made);
@@ -104,9 +108,10 @@ fn adopt<C: Core>(
     requires turns { quota.made ≤ quota.turns }
     requires ceiling { (length (C.history core.old) ≤ quota.ceiling) × (quota.ceiling ≤ length (C.history core.old) + C.space core.old) }
     requires ahead { RunsIn C.opening C.hart_count C.is_local C.ahead_by core.old quota.seat ahead.now }
-    ensures { MatchOption result (core.new ≡ core.old) (λ made. (quota.seat < C.hart_count core.old)
+    ensures made { MatchOption result (core.new ≡ core.old) (λ made. (quota.seat < C.hart_count core.old)
         × IsPlayed C.opening C.history C.hart_count C.space C.evictable core.old (replicate made.count (Step quota.seat)) core.new
         × Makes C.behaviour C.opening C.history C.hart_count core.old quota (Step quota.seat) most made) }
+    ensures adopts { Adopts C.history C.is_at_beginning core.old quota most ahead.now (count_made result) }
 {
     let Some(ahead) = ahead else {
         return None;
@@ -129,7 +134,8 @@ fn adopt<C: Core>(
 /// What runs ahead begins at the hart as it is now.
 fn begin_again<C: Core>(core: &C, seat: u32, ahead: &mut Option<Ahead<C::Local>>)
     requires { RunsIn C.opening C.hart_count C.is_local C.ahead_by core.now seat ahead.old }
-    ensures { RunsIn C.opening C.hart_count C.is_local C.ahead_by core.now seat ahead.new }
+    ensures ahead { RunsIn C.opening C.hart_count C.is_local C.ahead_by core.now seat ahead.new }
+    ensures begins { BeginsAt C.is_at_beginning core.now seat ahead.new }
 {
     if let Some(ahead) = ahead {
         core.refresh(seat, &mut ahead.local);
@@ -139,8 +145,10 @@ fn begin_again<C: Core>(core: &C, seat: u32, ahead: &mut Option<Ahead<C::Local>>
 
 /// Runs ahead until it can't, or has come so many steps.
 pub(crate) fn run_ahead<C: Core>(ahead: &mut Option<Ahead<C::Local>>, most: u64)
-    ensures { (core : C) (seat : ℕ) → RunsIn C.opening C.hart_count C.is_local C.ahead_by core seat ahead.old →
+    ensures ahead { (core : C) (seat : ℕ) → RunsIn C.opening C.hart_count C.is_local C.ahead_by core seat ahead.old →
         RunsIn C.opening C.hart_count C.is_local C.ahead_by core seat ahead.new }
+    ensures on { RunsOn C.is_at_beginning most ahead.old ahead.new }
+    ensures far { HasComeTo C.goes_ahead most ahead.new }
 {
     if let Some(ahead) = ahead {
         go_ahead::<C>(ahead, most);
@@ -149,8 +157,10 @@ pub(crate) fn run_ahead<C: Core>(ahead: &mut Option<Ahead<C::Local>>, most: u64)
 
 /// Runs ahead until it can't, or has come so many steps.
 fn go_ahead<C: Core>(ahead: &mut Ahead<C::Local>, most: u64)
-    ensures { (core : C) (seat : ℕ) → RunsIn C.opening C.hart_count C.is_local C.ahead_by core seat (Some ahead.old) →
+    ensures ahead { (core : C) (seat : ℕ) → RunsIn C.opening C.hart_count C.is_local C.ahead_by core seat (Some ahead.old) →
         RunsIn C.opening C.hart_count C.is_local C.ahead_by core seat (Some ahead.new) }
+    ensures on { RunsOn C.is_at_beginning most (Some ahead.old) (Some ahead.new) }
+    ensures far { HasComeTo C.goes_ahead most (Some ahead.new) }
 {
     while ahead.steps < most {
         if !C::ahead(&mut ahead.local) {
@@ -192,6 +202,7 @@ fn make_events<C: Core>(
     requires ahead { RunsIn C.opening C.hart_count C.is_local C.ahead_by core.old quota.seat ahead.now }
     ensures played { IsPlayed C.opening C.history C.hart_count C.space C.evictable core.old (events_made event result) core.new }
     ensures turn { TurnGives C.behaviour C.opening C.history C.hart_count core.old quota event most result }
+    ensures adopts { Adopts C.history C.is_at_beginning core.old quota most ahead.now (count_made result) }
 {
     let Some(first) = adopt_or_make(core, event, most, quota, ahead) else {
         return None;

@@ -1,5 +1,5 @@
 //! Boards at their start.
-ghost use Rattle.std.specs.Prelude.{◌≡◌, ◌⊎◌, ◌+◌, ◌<◌, ◌≤◌, [], ◌∷◌, ℕ, List, All, None, Some, length, slice_index_or, IfOk};
+ghost use Rattle.std.specs.Prelude.{◌≡◌, ◌≢◌, ◌+◌, ◌<◌, ◌≤◌, [], ◌∷◌, ℕ, List, All, None, Some, length, slice_index_or, IfOk};
 ghost use Rattle.std.specs.Vec.{vec_capacity};
 ghost use Rattle.hart_board.specs.declared.views.View.TheVariants.{Seated};
 ghost use Rattle.hart_board.specs.BoardRule.{newcomer, numbers_from, dealt};
@@ -90,13 +90,14 @@ impl<C: Core> Board<C> {
         requires key { (turns_of self.now ≡ turns) × (ceiling_of self.now ≡ ceiling) × (seats_of self.now ≡ count + 1)
             × IsInReach C.history C.space self.now.table.shared.key }
         requires row { (row.old.items ≡ []) × (count + 1 ≤ vec_capacity row.old) }
-        requires ahead { (n : ℕ) → RunsIn C.opening C.hart_count C.is_local C.ahead_by (opening_core self.now) n (slice_index_or ahead.old.items n None) }
+        requires ahead { (n : ℕ) → n < count + 1 →
+            RunsIn C.opening C.hart_count C.is_local C.ahead_by (opening_core self.now) n (slice_index_or ahead.old.items n None) }
         ensures place { (place.new.table_id ≡ self.now.table.shared.table_id)
             × (place.new.me ≡ (Seated (dealt self.now.table.shared.key (numbers_from count 1)), [])) }
         ensures numbers { numbers_of row.new.items ≡ numbers_from 0 count }
         ensures seats { All (λ s. IsSeatOf C.history C.space (RunsIn C.opening C.hart_count C.is_local C.ahead_by) self.now s × (seen s ≡ [])) row.new.items }
         ensures room { vec_capacity row.new ≡ vec_capacity row.old }
-        ensures ahead { (n : ℕ) → RunsIn C.opening C.hart_count C.is_local C.ahead_by (opening_core self.now) n (slice_index_or ahead.new.items n None) }
+        ensures ahead { RunsIn C.opening C.hart_count C.is_local C.ahead_by (opening_core self.now) count (slice_index_or ahead.new.items count None) }
     {
         for number in 0..count {
             let first = self.deal_first(place);
@@ -139,13 +140,14 @@ fn seated<C, L>(
     }
 }
 
-/// What runs ahead of each hart, by the seats' numbers.
+/// What runs ahead of each hart, by the seats' numbers. A seat that has a hart has one.
 fn all_ahead<C: Core>(
     alloc: Global,
     core: &C,
     seats: u32,
 ) -> Result<Vec<Option<Ahead<C::Local>>>, OutOfMemory>
-    ensures { IfOk result (λ all. (n : ℕ) → RunsIn C.opening C.hart_count C.is_local C.ahead_by core.now n (slice_index_or all.items n None)) }
+    ensures { IfOk result (λ all. (n : ℕ) → n < seats →
+        RunsIn C.opening C.hart_count C.is_local C.ahead_by core.now n (slice_index_or all.items n None)) }
 {
     let mut all = Vec::with_capacity(alloc, seats as usize)?;
     for number in 0..seats {
@@ -173,7 +175,7 @@ fn ahead_of<C: Core>(
 /// Takes what stands at this place.
 fn take_at<L>(all: &mut Vec<Option<Ahead<L>>>, number: u32) -> Option<Ahead<L>>
     ensures taken { result ≡ slice_index_or all.old.items number None }
-    ensures others { (n : ℕ) → (slice_index_or all.new.items n None ≡ slice_index_or all.old.items n None) ⊎ (slice_index_or all.new.items n None ≡ None) }
+    ensures others { (n : ℕ) → n ≢ number → slice_index_or all.new.items n None ≡ slice_index_or all.old.items n None }
 {
     match all.get_mut(number as usize) {
         None => None,

@@ -5,8 +5,9 @@ ghost use Rattle.machine_events.specs.Cores.{IsValid};
 ghost use Rattle.hart_board.specs.declared.views.Known.{Known};
 ghost use Rattle.hart_board.specs.BoardRule.{play_of, IsPlayOf, with_turn};
 ghost use Rattle.hart_board.specs.Journals.{IsOwn, IsLegal};
-ghost use Rattle.hart_board.specs.CoreTurns.{made_entry, count_made, IsWithin, RunsIn};
+ghost use Rattle.hart_board.specs.CoreTurns.{Adopts, IsPlayed, made_entry, count_made, IsWithin, RunsIn};
 ghost use Rattle.hart_board.specs.Seats.{Represents, IsInReach, IsInTurn, IsSeatOf, number, opening_core, rules_of, answer_of, TryTells, TurnTells};
+ghost use Rattle.hart_board.specs.Seats.{BeginsAgain, TryAhead, TurnAhead, quota_of};
 
 use crate::board::Board;
 use crate::core_turn::{Made, Quota, run_ahead};
@@ -28,6 +29,8 @@ impl<C: Core> Board<C> {
         ensures seat { IsSeatOf C.history C.space (RunsIn C.opening C.hart_count C.is_local C.ahead_by) self.now seat.new
             × (number seat.new ≡ number seat.old) }
         ensures turn { TurnTells (rules_of C.behaviour C.opening C.history C.hart_count self.now) (Step (number seat.old)) most result seat.old seat.new }
+        ensures ahead { TurnAhead C.history C.is_at_beginning C.goes_ahead
+            (IsPlayed C.opening C.history C.hart_count C.space C.evictable (opening_core self.now)) most result seat.old seat.new }
     {
         self.await_turn(rt, seat, Event::Step(seat.number), most)
     }
@@ -46,6 +49,8 @@ impl<C: Core> Board<C> {
         ensures seat { IsSeatOf C.history C.space (RunsIn C.opening C.hart_count C.is_local C.ahead_by) self.now seat.new
             × (number seat.new ≡ number seat.old) }
         ensures turn { TurnTells (rules_of C.behaviour C.opening C.history C.hart_count self.now) (Evict line mask) 1 result seat.old seat.new }
+        ensures ahead { TurnAhead C.history C.is_at_beginning C.goes_ahead
+            (IsPlayed C.opening C.history C.hart_count C.space C.evictable (opening_core self.now)) 1 result seat.old seat.new }
     {
         self.await_turn(rt, seat, Event::Evict { line, mask }, 1)
     }
@@ -58,6 +63,8 @@ impl<C: Core> Board<C> {
         ensures seat { IsSeatOf C.history C.space (RunsIn C.opening C.hart_count C.is_local C.ahead_by) self.now seat.new
             × (number seat.new ≡ number seat.old) }
         ensures turn { TryTells (rules_of C.behaviour C.opening C.history C.hart_count self.now) (Step (number seat.old)) most result seat.old seat.new }
+        ensures ahead { TryAhead C.history C.is_at_beginning C.goes_ahead
+            (IsPlayed C.opening C.history C.hart_count C.space C.evictable (opening_core self.now)) most result seat.old seat.new }
     {
         self.attempt(seat, Event::Step(seat.number), most)
     }
@@ -77,6 +84,8 @@ impl<C: Core> Board<C> {
         ensures seat { IsSeatOf C.history C.space (RunsIn C.opening C.hart_count C.is_local C.ahead_by) self.now seat.new
             × (number seat.new ≡ number seat.old) }
         ensures turn { TurnTells (rules_of C.behaviour C.opening C.history C.hart_count self.now) event most result seat.old seat.new }
+        ensures ahead { TurnAhead C.history C.is_at_beginning C.goes_ahead
+            (IsPlayed C.opening C.history C.hart_count C.space C.evictable (opening_core self.now)) most result seat.old seat.new }
     {
         for _ in rt.forever() {
             match self.attempt(seat, event, most) {
@@ -109,6 +118,8 @@ impl<C: Core> Board<C> {
         ensures seat { IsSeatOf C.history C.space (RunsIn C.opening C.hart_count C.is_local C.ahead_by) self.now seat.new
             × (number seat.new ≡ number seat.old) }
         ensures turn { TryTells (rules_of C.behaviour C.opening C.history C.hart_count self.now) event most result seat.old seat.new }
+        ensures ahead { TryAhead C.history C.is_at_beginning C.goes_ahead
+            (IsPlayed C.opening C.history C.hart_count C.space C.evictable (opening_core self.now)) most result seat.old seat.new }
     {
         let limit = most.min(seat.turns - seat.made);
         let ticket = self.ticket_of(seat);
@@ -125,6 +136,7 @@ impl<C: Core> Board<C> {
         requires table { seat.old.place.table_id ≡ self.now.table.shared.table_id }
         requires represents { (k : Known C) × Represents seat.old k }
         ensures same { (seat.new.place.table_id ≡ seat.old.place.table_id) × (seat.new.number ≡ seat.old.number) × (seat.new.local ≡ seat.old.local) }
+        ensures quota { quota_of seat.new ≡ quota_of seat.old }
         ensures kept { (seat.new.ticket ≡ Some result) × ((u : ℕ) → seat.old.ticket ≡ Some u → u ≡ result) }
         ensures represents { (k : Known C) → Represents seat.old k →
             (l : Known C) × (t : ℕ) × Represents seat.new l × (l ≡ record k { drawn = 1; ticket = Some t }) × (result ≡ t % 2 ^ 64) }
@@ -154,7 +166,9 @@ impl<C: Core> Board<C> {
             → IsWithin most result × Represents seat.new (with_turn k (made_entry seat.old.number event result))
             × IsLegal (play_of C.behaviour C.opening C.history C.hart_count k.terms) k.terms.turns k.terms.ceiling
             (k.seen ++ made_entry seat.old.number event result ∷ [])
-            × RunsIn C.opening C.hart_count C.is_local C.ahead_by k.terms.opening.value seat.old.number seat.new.local }
+            × RunsIn C.opening C.hart_count C.is_local C.ahead_by k.terms.opening.value seat.old.number seat.new.local
+            × Adopts C.history C.is_at_beginning core (quota_of seat.old) most seat.old.local (count_made result)
+            × BeginsAgain (IsPlayOf C.opening C.history C.hart_count C.space C.evictable k.terms) C.is_at_beginning seat.new }
     {
         let quota = Quota {
             seat: seat.number,

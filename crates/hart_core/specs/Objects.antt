@@ -1,14 +1,8 @@
 -- What a machine can run, and where a program's threads begin.
 use Rattle.std.specs.Prelude.{◌≡◌, ℕ, ◌%◌, ◌≤◌, length, All}
-use Rattle.ido_base.specs.declared.limits.TheConstants.{MOST_THREADS, MOST_CODE_WORDS, MOST_LOCKS, MOST_MUTEXES, MOST_VARIABLE_BYTES}
-use Rattle.log_schemes.specs.declared.log.Log.{Log}
-use Rattle.log_schemes.specs.declared.log.Log.TheVariants.{V1, V2}
+use Rattle.ido_base.specs.declared.limits.TheConstants.{MOST_THREADS, MOST_CODE_WORDS, MOST_VARIABLE_BYTES}
+use Rattle.log_schemes.specs.Schemes.{most_locks}
 use Rattle.machine_model.specs.declared.object.Object.{Object}
-
--- how many locks a machine has at most, where threads log so: as many as a mask has bits, or the arrays of a program may have
-abbrev pub most_locks : Log → ℕ
-most_locks V1 = MOST_MUTEXES
-most_locks V2 = MOST_LOCKS
 
 -- at most 8 threads of 1 to 65,536 words, 64 mutexes or 1,024 by the log, and 65,536 initial bytes, a multiple of 8
 pub record IsWithinLimits (object : Object) : Type 0 where

@@ -1,3 +1,4 @@
+pub mod Public
 mod Stops
 mod BoardEvents
 mod OwnEvictions

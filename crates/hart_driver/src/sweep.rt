@@ -51,7 +51,23 @@ fn append(outcomes: &mut Vec<Outcome>, mut more: Vec<Outcome>) -> Result<(), Out
     Ok(())
 }
 
-/// The outcomes of so many points from this one on, one after another.
+/// The outcome, which has the bytes of its report in memory where the last one of those before it has them, if both reports are equal.
+fn merged(before: &[Outcome], outcome: Outcome) -> Result<Outcome, OutOfMemory>
+    ensures { IfOk result (λ merged. merged ≡ outcome) }
+{
+    if let [.., last] = before {
+        if last.report.bytes() == outcome.report.bytes() {
+            let report = last.report.shared()?;
+            return Ok(Outcome {
+                settled: outcome.settled,
+                report,
+            });
+        }
+    }
+    Ok(outcome)
+}
+
+/// The outcomes of so many points from this one on, one after another. Equal reports that follow one another are in memory once.
 fn outcomes_in_turn<P: Replay, G: Gate>(
     alloc: Global,
     replay: &P,
@@ -66,7 +82,9 @@ fn outcomes_in_turn<P: Replay, G: Gate>(
     let mut outcomes = Vec::new(alloc);
     for k in first..first + count {
         gate.pass(k as u32, 1);
-        push(&mut outcomes, replay.outcome(k as u32)?)?;
+        let outcome = replay.outcome(k as u32)?;
+        let one = merged(&outcomes, outcome)?;
+        push(&mut outcomes, one)?;
     }
     Ok(outcomes)
 }

@@ -5,7 +5,6 @@ use Rattle.std.specs.Prelude.{nat_lt, nat_le, ◌&&◌}
 use Rattle.std.proofs.lemmas.Bool.{cases_lt, cases_eq, and_parts, or_cases, ltb-true, ltb-false, leb-true, eqb-true}
 use Rattle.std.proofs.lemmas.List.{set_past}
 use Rattle.std.proofs.Math.ListN.{length-append, length-set}
-use Rattle.log_schemes.specs.declared.log.Log.TheVariants.{V1, V2}
 use Rattle.log_schemes.specs.declared.log.Log.{Log}
 use Rattle.machine_events.specs.declared.event.Event.TheVariants.{Step, Evict}
 use Rattle.ido_base.specs.Words.{Word, Entry, word_at, live_value, last_position, with_value, with_part, part, loaded, stored}
@@ -88,85 +87,36 @@ IsNumbered log threads address bytes number =
 
 numbered : (log : Log) (threads address bytes : ℕ) → in_range log threads address bytes ≡ true → IsNumbered log threads address bytes (byte_number address)
 unfolding IsNumbered
-numbered V1 threads address bytes inside = by_half (nat_lt address logs_base) refl (or_cases _ _ inside)
+numbered log threads address bytes inside = by_half (nat_lt address logs_base) refl (or_cases _ _ inside)
   where
     by_half : (b : Bool) → nat_lt address logs_base ≡ b
         → ((nat_le variables_base address && nat_le (address + bytes) (variables_base + 65536)) ≡ true) ⊎
-        ((nat_le logs_base address && nat_le (address + bytes) (logs_base + 1024 * threads)) ≡ true)
-        → IsNumbered V1 threads address bytes (byte_number address)
+        ((nat_le logs_base address && nat_le (address + bytes) (logs_base + line_bytes * log_lines log * threads)) ≡ true)
+        → IsNumbered log threads address bytes (byte_number address)
     by_half true e (inl h) =
         let r = in_variables address bytes (variables_base + 65536) h in
         let n : byte_number address ≡ address - variables_base = ap (λ b. cond b (address - variables_base) (65536 + (address - logs_base))) e in
         inl (r.1, omega (arith, n, r.0))
-    by_half true e (inr h) = absurd (omega (arith, (in_logs address bytes (logs_base + 1024 * threads) h).0, ltb-true _ _ e))
+    by_half true e (inr h) = absurd (omega (arith, (in_logs address bytes (logs_base + line_bytes * log_lines log * threads) h).0, ltb-true _ _ e))
     by_half false e (inl h) = absurd (omega (arith, (in_variables address bytes (variables_base + 65536) h).1, ltb-false _ _ e))
     by_half false e (inr h) =
-        let r = in_logs address bytes (logs_base + 1024 * threads) h in
-        let n : byte_number address ≡ 65536 + (address - logs_base) = ap (λ b. cond b (address - variables_base) (65536 + (address - logs_base))) e in
-        inr (r.0, omega (arith, n, r.0), r.1)
-numbered V2 threads address bytes inside = by_half (nat_lt address logs_base) refl (or_cases _ _ inside)
-  where
-    by_half : (b : Bool) → nat_lt address logs_base ≡ b
-        → ((nat_le variables_base address && nat_le (address + bytes) (variables_base + 65536)) ≡ true) ⊎
-        ((nat_le logs_base address && nat_le (address + bytes) (logs_base + 2048 * threads)) ≡ true)
-        → IsNumbered V2 threads address bytes (byte_number address)
-    by_half true e (inl h) =
-        let r = in_variables address bytes (variables_base + 65536) h in
-        let n : byte_number address ≡ address - variables_base = ap (λ b. cond b (address - variables_base) (65536 + (address - logs_base))) e in
-        inl (r.1, omega (arith, n, r.0))
-    by_half true e (inr h) = absurd (omega (arith, (in_logs address bytes (logs_base + 2048 * threads) h).0, ltb-true _ _ e))
-    by_half false e (inl h) = absurd (omega (arith, (in_variables address bytes (variables_base + 65536) h).1, ltb-false _ _ e))
-    by_half false e (inr h) =
-        let r = in_logs address bytes (logs_base + 2048 * threads) h in
+        let r = in_logs address bytes (logs_base + line_bytes * log_lines log * threads) h in
         let n : byte_number address ≡ 65536 + (address - logs_base) = ap (λ b. cond b (address - variables_base) (65536 + (address - logs_base))) e in
         inr (r.0, omega (arith, n, r.0), r.1)
 
 numbers_apart : (log : Log) (threads a b c d n k : ℕ) → IsNumbered log threads a b n → IsNumbered log threads c d k → a + b ≤ c → n + b ≤ k
 unfolding IsNumbered
-numbers_apart V1 threads a b c d n k (inl p) (inl q) l = omega (arith, p.1, q.1, l)
-numbers_apart V1 threads a b c d n k (inl p) (inr q) l = omega (arith, p.0, p.1, q.0, q.1)
-numbers_apart V1 threads a b c d n k (inr p) (inl q) l = omega (arith, p.0, p.1, q.0, q.1, l)
-numbers_apart V1 threads a b c d n k (inr p) (inr q) l = omega (arith, p.1, q.1, l)
-numbers_apart V2 threads a b c d n k (inl p) (inl q) l = omega (arith, p.1, q.1, l)
-numbers_apart V2 threads a b c d n k (inl p) (inr q) l = omega (arith, p.0, p.1, q.0, q.1)
-numbers_apart V2 threads a b c d n k (inr p) (inl q) l = omega (arith, p.0, p.1, q.0, q.1, l)
-numbers_apart V2 threads a b c d n k (inr p) (inr q) l = omega (arith, p.1, q.1, l)
+numbers_apart log threads a b c d n k (inl p) (inl q) l = omega (arith, p.1, q.1, l)
+numbers_apart log threads a b c d n k (inl p) (inr q) l = omega (arith, p.0, p.1, q.0, q.1)
+numbers_apart log threads a b c d n k (inr p) (inl q) l = omega (arith, p.0, p.1, q.0, q.1, l)
+numbers_apart log threads a b c d n k (inr p) (inr q) l = omega (arith, p.1, q.1, l)
 
 -- an aligned access lies in one word
 aligned_within : (log : Log) (threads address bytes number : ℕ) → IsNumbered log threads address bytes number → is_width bytes ≡ true →
     aligned address bytes ≡ true →
     number % 8 + bytes ≤ 8
 unfolding IsNumbered
-aligned_within V1 threads address bytes number p width is_aligned = ⊎_elim
-    (λ h. ⊎_elim (λ e. of (λ (b : ℕ). within b) 1 (eqb-true _ _ e) (within_one number)) (λ e. by_two (eqb-true _ _ e)) (or_cases _ _ h))
-    (λ h. ⊎_elim (λ e. by_four (eqb-true _ _ e)) (λ e. by_eight (eqb-true _ _ e)) (or_cases _ _ h))
-    (or_cases _ _ width)
-  where
-    within : ℕ → Type 0
-    within b = number % 8 + b ≤ 8
-
-    of : (P : ℕ → Type 0) (b : ℕ) → bytes ≡ b → P b → P bytes
-    of P b e h = subst (λ (x : ℕ). P x) (sym e) h
-
-    within_one : (n : ℕ) → n % 8 + 1 ≤ 8
-    within_one n = omega arith
-
-    rest : (b : ℕ) → bytes ≡ b → address % b ≡ 0
-    rest b e = ap (λ (x : ℕ). address % x) (sym e) ∙ eqb-true _ _ is_aligned
-
-    -- a base is a whole number of words
-    number_rest : (number % 8 ≡ address % 8)
-    number_rest = ⊎_elim (λ q. (let e = q.1 in omega (arith, e))) (λ q. (let e = q.1 in omega (arith, e))) p
-
-    by_two : bytes ≡ 2 → number % 8 + bytes ≤ 8
-    by_two e = let r : address % 2 ≡ 0 = rest 2 e in omega (arith, r, e, number_rest)
-
-    by_four : bytes ≡ 4 → number % 8 + bytes ≤ 8
-    by_four e = let r : address % 4 ≡ 0 = rest 4 e in omega (arith, r, e, number_rest)
-
-    by_eight : bytes ≡ 8 → number % 8 + bytes ≤ 8
-    by_eight e = let r : address % 8 ≡ 0 = rest 8 e in omega (arith, r, e, number_rest)
-aligned_within V2 threads address bytes number p width is_aligned = ⊎_elim
+aligned_within log threads address bytes number p width is_aligned = ⊎_elim
     (λ h. ⊎_elim (λ e. of (λ (b : ℕ). within b) 1 (eqb-true _ _ e) (within_one number)) (λ e. by_two (eqb-true _ _ e)) (or_cases _ _ h))
     (λ h. ⊎_elim (λ e. by_four (eqb-true _ _ e)) (λ e. by_eight (eqb-true _ _ e)) (or_cases _ _ h))
     (or_cases _ _ width)
@@ -211,14 +161,10 @@ placed log threads address bytes h =
 -- the line of an address is there
 pub line_there : (log : Log) (threads address : ℕ) → in_range log threads address 1 ≡ true → 8 * (byte_number address / 64) + 8 ≤ word_count log threads
 unfolding IsNumbered
-line_there V1 threads address inside = ⊎_elim
+line_there log threads address inside = ⊎_elim
     (λ p. (let low = p.0 in let is = p.1 in omega (arith, low, is)))
     (λ p. (let high = p.2 in let is = p.1 in omega (arith, high, is)))
-    (numbered V1 threads address 1 inside)
-line_there V2 threads address inside = ⊎_elim
-    (λ p. (let low = p.0 in let is = p.1 in omega (arith, low, is)))
-    (λ p. (let high = p.2 in let is = p.1 in omega (arith, high, is)))
-    (numbered V2 threads address 1 inside)
+    (numbered log threads address 1 inside)
 
 -- ---- Agreement
 

@@ -19,7 +19,8 @@ use Rattle.rv64_isa.specs.Rows.{Effect, Continues, Loads, Stores, Cleans, Fences
 use Rattle.rv64_isa.specs.Programs.{fetched}
 use Rattle.machine_model.specs.Machine.{Hart, World, Outcome, with_hart, with_holder, drain_one, access, cleaned, fenced, acquired, released, ended, called}
 use Rattle.machine_model.specs.Machine.{applied, executed, hart_step, taken, waited, taking_from, record_of, resumed, over_after, done_if_over, phase_step}
-use Rattle.machine_model.specs.Machine.{stepped, happens, after_event, durable_point, phase_after_crash, start_of, after_crash_of, fresh_hart, numbers_from}
+use Rattle.machine_model.specs.Machine.{stepped, happens, after_event, durable_point, phase_after_crash, start_of, after_crash_of, fresh_hart}
+use Rattle.log_schemes.specs.Schemes.{numbers_from}
 use Rattle.machine_model.proofs.Public.{after_start, anew_found, get-set_same, get-set_other}
 use Rattle.hart_runs.specs.Laws.{AreShort}
 use Rattle.hart_runs.proofs.Worlds.{none_some, some_same, same_there, took}

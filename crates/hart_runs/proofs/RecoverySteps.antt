@@ -4,7 +4,6 @@ use Rattle.std.proofs.Common.{ap, arith, sym, ◌∙◌, subst, get_or, Bool, tr
 use Rattle.std.specs.Prelude.{slice_get, min, not, ◌==◌}
 use Rattle.std.proofs.lemmas.Bool.{cases_lt, cond_both, eqb-true}
 use Rattle.ido_base.specs.Words.{Word}
-use Rattle.log_schemes.specs.declared.log.Log.TheVariants.{V1, V2}
 use Rattle.log_schemes.specs.declared.log.Log.{Log}
 use Rattle.machine_events.specs.declared.event.Event.TheVariants.{Step}
 use Rattle.machine_events.specs.declared.event.Reply.TheVariants.{Still}
@@ -12,8 +11,10 @@ use Rattle.ido_base.specs.Locks.{is_held_by, is_missing, has_lock, lesser, least
 use Rattle.rv64_isa.specs.declared.object.Slot.{Slot}
 use Rattle.machine_model.specs.declared.phase.Phase.{Phase}
 use Rattle.machine_model.specs.declared.phase.Phase.TheVariants.{Take, Wait, Resume, Run, Done, Ended}
+use Rattle.machine_model.proofs.Public.{resumed_count}
 use Rattle.machine_model.specs.Machine.{Hart, World, moved, taken, waited, taking_from, is_taking, record_of}
-use Rattle.machine_model.specs.Machine.{durable_point, resume_of, resumed_register, resumed_registers, numbers_from, happens}
+use Rattle.machine_model.specs.Machine.{durable_point, resume_of, resumed_register, resumed_registers, happens}
+use Rattle.log_schemes.specs.Schemes.{numbers_from}
 use Rattle.ido_base.proofs.Public.{has_cases, has_first, has_later}
 use Rattle.hart_runs.specs.Calls.{IsInPhase, IsRecorded, TakesLocks, AwaitsOthers, ResumesHart}
 use Rattle.hart_runs.proofs.OtherEventsKeepRuns.{moved_harts_begin}
@@ -188,19 +189,6 @@ module _ (program : List (List Slot)) (w : World) (h : ℕ) (i : IsInPhase w h W
 
 -- ---- Resume
 
-mapped : (f : ℕ → ℕ) (at count r : ℕ) → r < count → get_or (map f (numbers_from at count)) r 0 ≡ f (at + r)
-mapped f at zero r l = absurd (let z : ⊥ = omega (arith, l) in z)
-mapped f at (suc count) zero l = ap f (sym (add-zero at))
-mapped f at (suc count) (suc r) l = let e : at + 1 + r ≡ at + suc r = omega arith in mapped f (at + 1) count r (omega (arith, l)) ∙ ap f e
-
-count_mapped : (f : ℕ → ℕ) (at count : ℕ) → length (map f (numbers_from at count)) ≡ count
-count_mapped f at zero = refl
-count_mapped f at (suc count) = let more = count_mapped f (at + 1) count in omega (arith, more)
-
-count_resumed : (log : Log) (words : List Word) (h : ℕ) → length (resumed_registers log words h) ≡ 32
-count_resumed V1 words h = count_mapped (resumed_register V1 words h) 0 32
-count_resumed V2 words h = count_mapped (resumed_register V2 words h) 0 32
-
 resumed_hart : World → (h : ℕ) → Hart → Hart
 resumed_hart w h hart = record hart {
   registers = resumed_registers w.log w.words h;
@@ -217,7 +205,7 @@ resumes_step program w h i =
       does = does;
       runs = refl;
       pc = refl;
-      count = count_resumed w.log w.words h;
+      count = resumed_count w.log w.words h;
       registers = refl;
       queue = refl;
       at = moved_harts_begin program w w h i.hart (resumed_hart w h i.hart) i.here does refl;

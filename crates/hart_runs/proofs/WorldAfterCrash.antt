@@ -8,7 +8,8 @@ use Rattle.ido_base.specs.Words.{Word, word_of, word_at, durable_value}
 use Rattle.ido_base.specs.Layout.{word_number}
 use Rattle.log_schemes.specs.Layout.{point_at}
 use Rattle.rv64_isa.specs.declared.object.Slot.{Slot}
-use Rattle.machine_model.specs.Machine.{World, fresh_hart, phase_after_crash, durable_point, numbers_from, after_crash_of, happens, after_event}
+use Rattle.machine_model.specs.Machine.{World, fresh_hart, phase_after_crash, durable_point, after_crash_of, happens, after_event}
+use Rattle.log_schemes.specs.Schemes.{numbers_from}
 use Rattle.hart_runs.specs.Laws.{IsCrashed}
 use Rattle.hart_runs.proofs.Worlds.{none_some, some_same}
 

@@ -105,7 +105,8 @@ module _ (log : Log) (text : List ℕ) (x : Compiled) (is : IsCompiledAs log tex
         let there : played living (beginning c) crashed ≡ (let m : LifeConfig = record (beginning c) { world = world c crashed } in m) =
         played_is (beginning c) crashed in
         -- since the crash
-        let since : passed_count living (at_point h) (opening_of life) journal ≡ passed_count living (at_point h) (played living (beginning c) crashed) journal =
+        let since : passed_count living (at_point h) (opening_of life) journal
+        ≡ passed_count living (at_point h) (played living (beginning c) crashed) journal =
         plainly h journal (opening_of life)
         ∙ ap₂ (λ (r : Executable) (w : World). passed_count living (at_point h) (plain h r w) journal) runs_are opens
         ∙ sym (ap (λ (m : LifeConfig). passed_count living (at_point h) m journal) there

@@ -14,7 +14,7 @@ use Rattle.c_tree.specs.declared.program.Variable as declared
 use Rattle.c_tree.specs.Programs as p
 use Rattle.c_tree.specs.Programs.{variable_of}
 use Rattle.c_tree.specs.WellFormed.{elements_in}
-use Rattle.machine_model.specs.Machine.{numbers_from}
+use Rattle.log_schemes.specs.Schemes.{numbers_from}
 use Rattle.memory_layout.specs.Variables.{AreAddresses, HaveRoom}
 use Rattle.variable_words.proofs.Public.{shapes, address_is, length-variables, length-shapes, variable_at_index, number_is, within_end}
 use Rattle.variable_words.specs.Variables.{durable_variables, number_of_byte, variables_from}

@@ -79,7 +79,7 @@ module _ (variables : List ℕ) (count : ℕ) (few : length variables ≤ 8192) 
   beyond : (number rest : ℕ) → number ≡ 8192 + rest → length variables ≤ number
   beyond number rest is = omega (arith, few, is)
 
-  point_is : (log : Log) (h : ℕ) → word_at (map word_of words) (word_number (point_at log h)) ≡ word_of 0
+  pub point_is : (log : Log) (h : ℕ) → word_at (map word_of words) (word_number (point_at log h)) ≡ word_of 0
   point_is log h = past_is (word_number (point_at log h)) (beyond (word_number (point_at log h)) (log_words log * h) (word_of_point log h))
 
   module _ (log : Log) (program : List (List Slot)) (locks : ℕ) where

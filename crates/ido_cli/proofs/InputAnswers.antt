@@ -4,7 +4,7 @@ use Rattle.std.specs.Prelude.{IfOk, Result, Ok, Err, codes}
 use Rattle.ido_base.specs.declared.limits.TheConstants.{MOST_INPUT_BYTES, MOST_SOURCE_BYTES}
 use Rattle.file_fields.specs.Fields as fields
 use Rattle.object_format.specs.ObjectDecoder as o
-use Rattle.ido_cli.specs.declared.command.Command.TheVariants as command
+use Rattle.command_words.specs.declared.command.Command.TheVariants as command
 use Rattle.ido_cli.specs.declared.answer.Product.{Product}
 use Rattle.ido_cli.specs.declared.answer.Product.TheVariants as products
 use Rattle.ido_cli.specs.declared.play.Asked.{Asked}

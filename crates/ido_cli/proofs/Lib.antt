@@ -1,13 +1,10 @@
 mod Worked
-mod WorkedListing
 mod WorkedNodes
 mod WorkedRuns
-mod CodeLimits
 mod InputAnswers
 mod InputSteps
 mod TopCallAnswers
 mod GatheredReports
-mod Commands
 mod RestLengths
 mod RefusedSchedules
 mod UniqueAnswers
@@ -46,6 +43,7 @@ mod ScriptAnswers
 mod RefusedSources
 mod RunImageAnswers
 mod RecoveredImages
+mod UpgradedRunImages
 mod SameContents
 mod JournalInputs
 mod JournalAnswers

@@ -13,7 +13,8 @@ use Rattle.machine_model.specs.declared.object.Object.{Object}
 use Rattle.rv64_isa.specs.declared.object.Marks.{Marks}
 use Rattle.rv64_isa.specs.declared.object.Slot.{Slot}
 use Rattle.machine_model.specs.Executables.{Executable}
-use Rattle.machine_model.specs.Machine.{World, after_event, after_events, machine_start, numbers_from, start_of}
+use Rattle.machine_model.specs.Machine.{World, after_event, after_events, machine_start, start_of}
+use Rattle.log_schemes.specs.Schemes.{numbers_from}
 use Rattle.machine_model.specs.Frames.{IsWellFormedWorld}
 use Rattle.rv64_isa.specs.Programs.{slot_of}
 use Rattle.machine_model.specs.Objects.{program_of}

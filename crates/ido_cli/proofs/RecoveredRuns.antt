@@ -6,7 +6,10 @@ use Rattle.std.specs.Global.{Global}
 use Rattle.std.proofs.lemmas.Bool.{cases_lt}
 use Rattle.std.proofs.lemmas.List.{length-map, length-replicate}
 use Rattle.log_schemes.specs.Layout.{log_words}
-use Rattle.log_schemes.specs.declared.log.Log.TheVariants.{V1, V2}
+use Rattle.log_schemes.specs.declared.size.LogSize.{LogSize}
+use Rattle.log_schemes.specs.declared.size.LogSize.TheVariants.{Lines16, Lines32}
+use Rattle.log_schemes.specs.Schemes.{lines_of, size_of}
+use Rattle.ido_base.specs.Layout.{variable_lines}
 use Rattle.log_schemes.specs.declared.log.Log.{Log}
 use Rattle.ido_base.specs.declared.limits.TheConstants.{MOST_STEPS, VARIABLE_WORDS}
 use Rattle.machine_events.specs.declared.event.Event.{Event}
@@ -41,7 +44,8 @@ use Rattle.image_checks.proofs.Public.{lives_few}
 use Rattle.crash_images.specs.Contents.{Tells, log_of}
 use Rattle.crash_images.specs.declared.version.ImageVersion.{ImageVersion}
 use Rattle.crash_images.specs.declared.version.ImageVersion.TheVariants.{First, Second, Third}
-use Rattle.image_runs.specs.Laws.{AcceptedRunOn}
+use Rattle.compiler_correctness.specs.SettledImages.{IsCarriedOn, IsSettledImage}
+use Rattle.image_runs.specs.Laws.{AcceptedGoOn, AcceptedRunOn}
 use Rattle.ido_compile.specs.Files.{FilesBegin}
 use Rattle.run_scripts.specs.declared.evictor.Evictor.{Evictor}
 use Rattle.run_scripts.specs.Runs.{schedule_of}
@@ -108,9 +112,12 @@ spread_long n own words few size =
       size,
     )
 
+words_as : (size : LogSize) (threads : ℕ) → VARIABLE_WORDS + 8 * lines_of size * threads ≡ 8 * (variable_lines + lines_of size * threads)
+words_as Lines16 threads = omega arith
+words_as Lines32 threads = omega arith
+
 all_words : (log : Log) (threads : ℕ) → VARIABLE_WORDS + log_words log * threads ≡ word_count log threads
-all_words V1 threads = omega arith
-all_words V2 threads = omega arith
+all_words log threads = words_as (size_of log) threads
 
 pub spread_size : (log : Log) (n threads : ℕ) (words : List ℕ) → n ≤ VARIABLE_WORDS → length words ≡ n + log_words log * threads →
     length (spread_words n words) ≡ word_count log threads
@@ -204,7 +211,8 @@ module _ (flat : f.Flat) (object : Object) (marks : Marks) (cuts : Cuts) (t : Is
       opens : opening_of life ≡ (let m : LifeConfig = record (recovering made file) { ended_before = ended } in m)
       opens =
           same ∙ ap opening_of is
-          ∙ ap (λ (w : World). let m : LifeConfig = record (recovering made file) { ended_before = ended; world = w } in m) (files flat object marks cuts file [])
+          ∙ ap (λ (w : World). let m : LifeConfig = record (recovering made file) { ended_before = ended; world = w } in m)
+          (files flat object marks cuts file [])
 
       pub same_world : world_of life ≡ world_from made (image_in made file) life.journal
       same_world = ap (λ (m : LifeConfig). after_events m.runs.program m.world life.journal) opens
@@ -302,3 +310,21 @@ accepted_runs_on run newest bytes image (whole read is) =
     let count : length state.variables ≡ length t.object.initial.items / 8 = omega (arith, after.fits.variables) in
     let spread = ap₂ (λ (n : ℕ) (ws : List ℕ). spread_words n ws) count (sym is.words) in
     subst (λ (ws : List ℕ). RunsOn (translation_in c) (record { words = ws; kept = kept })) spread on
+
+-- and where it is settled, lives go on from it as from the source's start
+pub accepted_goes_on : AcceptedGoOn → (newest : ImageVersion) (bytes : List ℕ) (image : i.Image) → IsImageAnswer newest bytes (Ok image) →
+    let c = translation_in image.compiled in
+    IsSettledImage c (image_in c (file_in image)) → (events : List Event) → IsCarriedOn c (image_in c (file_in image)) events
+accepted_goes_on go_on newest bytes image (whole read is) settled events =
+    let c = image.compiled in
+    let t = c.translated in
+    let state = is.state in
+    let kept = (file_in image).kept in
+    let compiled = is.is.source.compiled in
+    let after = is.is.after in
+    let count : length state.variables ≡ length t.object.initial.items / 8 = omega (arith, after.fits.variables) in
+    let spread = ap₂ (λ (n : ℕ) (ws : List ℕ). spread_words n ws) count (sym is.words) in
+    let here = subst (λ (ws : List ℕ). IsSettledImage (translation_in c) (record { words = ws; kept = kept })) (sym spread) settled in
+    let on = go_on is.version (f.flat_of c.flat) t.object t.marks t.cuts t.resumes.items state kept compiled.resumable after.fits after.references is.sound here
+    events in
+    subst (λ (ws : List ℕ). IsCarriedOn (translation_in c) (record { words = ws; kept = kept }) events) spread on

@@ -6,7 +6,7 @@ use Rattle.ido_compile.specs.LoggedTexts.{IsRefusedAs}
 use Rattle.flat_compile.specs.TranslatedForms.{command_log}
 use Rattle.compiler_correctness.specs.Translations.{Translation}
 use Rattle.ido_compile.specs.CompileAnswers.{IsCompileAnswer}
-use Rattle.ido_compile.specs.links.FrontEndAnswers.{IsFrontAnswer, IsRefusal}
+use Rattle.ido_compile.specs.links.FrontEndAnswers.{IsFrontAnswerAs, IsRefusalAs}
 use Rattle.ido_compile.specs.declared.error.CompileError.{CompileError}
 use Rattle.ido_compile.specs.declared.error.CompileError.TheVariants as error
 use Rattle.ido_cli.specs.Answers.{CompileAnswer, uncompiled, OrderAnswer, unlocked, RegionsAnswer, uncut}
@@ -20,12 +20,12 @@ pub compile_refused : (source : List ℕ) (found : CompileError) → IsCompileAn
 compile_refused source (error.Refused x) refused status output told = uncompiled x.rule x.place refused told
 compile_refused source error.Memory refused status output none = absurd none
 
-pub regions_refused : (least : Bool) (source : List ℕ) (found : CompileError) → IsRefusal source found → (status : ℕ) (output : List ℕ) →
+pub regions_refused : (least : Bool) (source : List ℕ) (found : CompileError) → IsRefusalAs command_log source found → (status : ℕ) (output : List ℕ) →
     TellsRefusal found source status output → RegionsAnswer least source status output
 regions_refused least source (error.Refused x) refused status output told = uncut x.rule x.place refused told
 regions_refused least source error.Memory refused status output none = absurd none
 
-pub order_refused : (source : List ℕ) (found : CompileError) → IsFrontAnswer source (Err found) → (status : ℕ) (output : List ℕ) →
+pub order_refused : (source : List ℕ) (found : CompileError) → IsFrontAnswerAs command_log source (Err found) → (status : ℕ) (output : List ℕ) →
     TellsRefusal found source status output → OrderAnswer source status output
 order_refused source (error.Refused x) refused status output told = unlocked x.rule x.place refused told
 order_refused source error.Memory refused status output none = absurd none
@@ -38,7 +38,8 @@ draw_refused seed turns crashes journal source error.Memory refused status outpu
 
 -- the source of an input
 module _ (source input : List ℕ) (is : source ≡ source_of input) where
-  pub run_refused : (found : CompileError) → IsFrontAnswer source (Err found) → (status : ℕ) (output : List ℕ) → TellsRefusal found source status output →
+  pub run_refused : (found : CompileError) → IsFrontAnswerAs command_log source (Err found) → (status : ℕ) (output : List ℕ) →
+      TellsRefusal found source status output →
       SourceAnswer input status output
   run_refused (error.Refused x) refused status output (one, told) =
       unaccepted x.rule x.place (subst (λ (text : List ℕ). IsRefusedAs command_log text x.rule x.place) is refused)

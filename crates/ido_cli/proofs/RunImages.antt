@@ -3,7 +3,6 @@ use Rattle.std.proofs.Common.{◌≡◌, ℕ, ◌+◌, ◌*◌, ◌/◌, ◌≤�
 use Rattle.std.specs.Prelude.{sum_by}
 use Rattle.std.proofs.lemmas.List.{length-map}
 use Rattle.log_schemes.specs.Layout.{log_words}
-use Rattle.log_schemes.specs.declared.log.Log.TheVariants.{V2}
 use Rattle.log_schemes.specs.declared.log.Log.{Log}
 use Rattle.ido_base.specs.declared.limits.TheConstants.{VARIABLE_WORDS}
 use Rattle.machine_events.specs.declared.event.Event.{Event}
@@ -15,7 +14,7 @@ use Rattle.machine_model.specs.Machine.{World}
 use Rattle.rv64_isa.specs.Programs.{slot_of}
 use Rattle.machine_model.specs.Schedule.{Steps, all_lives, schedules}
 use Rattle.flow_graph.specs.declared.cuts.Cuts.{Cuts}
-use Rattle.flat_compile.specs.TranslatedForms.{IsTranslated}
+use Rattle.flat_compile.specs.TranslatedForms.{IsTranslated, command_log}
 use Rattle.compiler_correctness.specs.Compilations.{IsCompilation}
 use Rattle.compiler_correctness.specs.Images.{file_of, image_of, variable_words}
 use Rattle.compiler_correctness.specs.Translations.{Translation, translation_to}
@@ -67,7 +66,7 @@ module _ (flat : f.Flat) (object : Object) (marks : Marks) (cuts : Cuts) (life :
     pub variables_few : variable_words_in life ≤ VARIABLE_WORDS
     variables_few = omega (arith, same_variables, t.limits.bytes)
 
-    size : length left ≡ variable_words_in life + log_words V2 * length object.code.items
+    size : length left ≡ variable_words_in life + log_words command_log * length object.code.items
     size =
         let harts = length-map object.code.items (λ code. map slot_of code.items) in
         let in_file = subst (λ (l : Log). length (file_of made (image_of made events)).words

@@ -5,7 +5,8 @@ use Rattle.std.proofs.lemmas.Bool.{and_parts, cases_lt}
 use Rattle.machine_events.specs.declared.event.Event.{Event}
 use Rattle.c_tree.specs.Flats as f
 use Rattle.c_tree.specs.Source as m
-use Rattle.machine_model.specs.Machine.{World, numbers_from}
+use Rattle.machine_model.specs.Machine.{World}
+use Rattle.log_schemes.specs.Schemes.{numbers_from}
 use Rattle.machine_model.specs.Schedule.{schedules}
 use Rattle.machine_model.specs.Machine.{is_settled, is_settled_hart, are_settled}
 use Rattle.source_machine.specs.Lives.{after_lives, ended_lives}

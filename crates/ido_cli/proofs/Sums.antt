@@ -16,7 +16,8 @@ use Rattle.c_tree.specs.Flats as f
 use Rattle.c_tree.specs.Programs as p
 use Rattle.c_tree.specs.Source as m
 use Rattle.c_tree.specs.WellFormed.{elements_in, shape_of}
-use Rattle.machine_model.specs.Machine.{World, numbers_from}
+use Rattle.machine_model.specs.Machine.{World}
+use Rattle.log_schemes.specs.Schemes.{numbers_from}
 use Rattle.memory_layout.specs.Variables.{HaveRoom}
 use Rattle.recovery_semantics.specs.Elements.{number_in}
 use Rattle.variable_words.specs.Variables.{durable_variables, number_of_byte, variables_from}

@@ -14,9 +14,9 @@ use Rattle.ido_base.specs.declared.limits.TheConstants.{MOST_INPUT_BYTES}
 use Rattle.c_tree.specs.Flats as f
 use Rattle.machine_model.specs.Machine.{World}
 use Rattle.compiler_correctness.specs.Translations.{Translation}
-use Rattle.ido_cli.specs.declared.command.Command.{Command}
-use Rattle.ido_cli.specs.declared.command.Command.TheVariants as command
-use Rattle.ido_cli.specs.Commands.{command_of, is_unread, reads_input}
+use Rattle.command_words.specs.declared.command.Command.{Command}
+use Rattle.command_words.specs.declared.command.Command.TheVariants as command
+use Rattle.command_words.specs.Commands.{command_of, is_unread, reads_input}
 use Rattle.ido_cli.specs.Runs.{RunAnswer, ran, stopped, run_state, status_by}
 use Rattle.ido_cli.specs.Images.{IsImageAfter}
 use Rattle.ido_cli.specs.Inputs.{source_of}

@@ -8,8 +8,8 @@ use Rattle.c_tree.specs.Source.{start}
 use Rattle.run_scripts.specs.Schedules as s
 use Rattle.run_scripts.specs.Scripts as scripts
 use Rattle.source_machine.specs.LifeRuns.{LivesNotWhole, OneLifeStop}
-use Rattle.ido_cli.specs.declared.command.Command as c
-use Rattle.ido_cli.specs.declared.command.Command.TheVariants as command
+use Rattle.command_words.specs.declared.command.Command as c
+use Rattle.command_words.specs.declared.command.Command.TheVariants as command
 use Rattle.c_tree.specs.declared.rule.Rule as r
 use Rattle.ido_compile.specs.LoggedTexts.{IsAcceptedAs, IsRefusedAs}
 use Rattle.flat_compile.specs.TranslatedForms.{command_log}
@@ -23,7 +23,7 @@ use Rattle.ido_cli.specs.Refusals.{line_at_byte, line_at_step, object_fault_code
 use Rattle.ido_cli.specs.Refusals.{script_fault_code, script_fault_place, stop_code}
 use Rattle.object_format.specs.Contents.{Contents}
 use Rattle.file_fields.specs.Fields as fields
-use Rattle.ido_cli.specs.ObjectListing.{listing}
+use Rattle.object_listing.specs.ObjectListing.{listing}
 use Rattle.ido_cli.specs.Runs.{RunAnswer, ran, stopped, status_by}
 use Rattle.ido_cli.specs.Inputs.{source_of, rest_of}
 use Rattle.ido_cli.specs.Answers.{CommandAnswer, CompileAnswer, uncompiled, compiled, RegionsAnswer, uncut, cut, PlayAnswer}

@@ -31,7 +31,7 @@ use Rattle.ido_compile.specs.declared.error.CompileError.TheVariants as compilin
 use Rattle.ido_compile.specs.CompileAnswers.{IsCompiledAs, IsCompileAnswerAs, translation_in}
 use Rattle.ido_compile.specs.LoggedTexts.{IsRefusedAs}
 use Rattle.ido_compile.specs.Verdicts.{NotBoth}
-use Rattle.log_schemes.specs.declared.log.Log.TheVariants.{V2}
+use Rattle.flat_compile.specs.TranslatedForms.{command_log}
 use Rattle.image_checks.specs.declared.error.ImageError.{ImageError}
 use Rattle.run_scripts.specs.Runs.{schedule_of}
 use Rattle.run_tracker.specs.ObjectLives.{Course, left_words, steps_in, variable_words_in, world_of}
@@ -65,21 +65,21 @@ first_fault bytes error first = elim first.none [
 
 module _ (bytes : List ℕ) (b : Begun) (h : HasBegun Second bytes b) where
   -- one after it, where the source is accepted for the newest log
-  pub taken_anew : NotBoth → (again : Compiled) → IsCompiledAs V2 b.source.now again → IsTakenAnew bytes
+  pub taken_anew : NotBoth → (again : Compiled) → IsCompiledAs command_log b.source.now again → IsTakenAnew bytes
   taken_anew not_both again accepted version c rule place begins refused =
       let same = same_source Second bytes version b.version c b.compiled begins h.is ∙ h.source in
-      not_both V2 b.source.now (flat_of again.flat) rule place accepted.accepted
-      (subst (λ (text : List ℕ). IsRefusedAs V2 text rule place) same refused)
+      not_both command_log b.source.now (flat_of again.flat) rule place accepted.accepted
+      (subst (λ (text : List ℕ). IsRefusedAs command_log text rule place) same refused)
 
-  anew_by : (error : CompileError) → IsCompileAnswerAs V2 b.source.now (Err error) → IsOlderFault bytes (image_fault error)
+  anew_by : (error : CompileError) → IsCompileAnswerAs command_log b.source.now (Err error) → IsOlderFault bytes (image_fault error)
   anew_by (compiling.Refused x) told =
-      refused_anew b.version b.compiled x.rule x.place h.is (subst (λ (text : List ℕ). IsRefusedAs V2 text x.rule x.place) (sym h.source) told)
+      refused_anew b.version b.compiled x.rule x.place h.is (subst (λ (text : List ℕ). IsRefusedAs command_log text x.rule x.place) (sym h.source) told)
   anew_by compiling.Memory told = unknown
 
   pub anew_fault : (x : ImageError) → IsAnewFault b.source.now x → IsOlderFault bytes x
   anew_fault x found = subst (λ (y : ImageError). IsOlderFault bytes y) (sym found.1) (anew_by found.0 found.2)
 
-  pub older_image : (again : Compiled) → IsCompiledAs V2 b.source.now again → (image : Image) → IsImageAnswer Second bytes (Ok image) →
+  pub older_image : (again : Compiled) → IsCompiledAs command_log b.source.now again → (image : Image) → IsImageAnswer Second bytes (Ok image) →
       IsOlderImage bytes image b.source.now
   older_image again accepted image (whole read is) = record {
     is = is;
@@ -90,12 +90,12 @@ module _ (bytes : List ℕ) (b : Begun) (h : HasBegun Second bytes b) where
 
 -- what is answered to bytes whose source is refused for the newest log
 module _ (not_both : NotBoth) (bytes : List ℕ) (version : ImageVersion) (c : Compiled) (rule : Rule) (place : Place)
-    (begins : BeginsCompiled Second bytes version c) (refused : IsRefusedAs V2 begins.source rule place) where
+    (begins : BeginsCompiled Second bytes version c) (refused : IsRefusedAs command_log begins.source rule place) where
   not_older_image : (image : Image) (source : List ℕ) → IsOlderImage bytes image source → ⊥
   not_older_image image source older =
       let same = same_source Second bytes version older.is.version c image.compiled begins older.is.is.source ∙ older.source_is in
-      not_both V2 source (flat_of older.again.flat) rule place older.accepted.accepted
-      (subst (λ (text : List ℕ). IsRefusedAs V2 text rule place) same refused)
+      not_both command_log source (flat_of older.again.flat) rule place older.accepted.accepted
+      (subst (λ (text : List ℕ). IsRefusedAs command_log text rule place) same refused)
 
   pub source_comes_first : (turns status : ℕ) (output : List ℕ) → UpgradeAnswer turns bytes status output →
       (status ≡ 6) × (output ≡ line (codes "refused I4"))

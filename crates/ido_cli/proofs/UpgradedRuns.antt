@@ -9,18 +9,22 @@ use Rattle.machine_events.specs.declared.event.Event.{Event}
 use Rattle.machine_events.specs.declared.event.Event.TheVariants.{Step, Evict, Crash, Start}
 use Rattle.ido_base.specs.declared.limits.TheConstants.{MOST_STEPS, VARIABLE_WORDS}
 use Rattle.log_schemes.specs.declared.log.Log.{Log}
-use Rattle.log_schemes.specs.declared.log.Log.TheVariants.{V1, V2}
+use Rattle.log_schemes.specs.declared.size.LogSize.{LogSize}
+use Rattle.log_schemes.specs.declared.size.LogSize.TheVariants.{Lines16, Lines32}
+use Rattle.log_schemes.specs.Schemes.{lines_of, size_of as log_size}
+use Rattle.flat_compile.specs.TranslatedForms.{command_log}
 use Rattle.ido_base.specs.declared.place.Place.{Place}
 use Rattle.ido_base.specs.Layout.{aligned_up, end_from, spread_words, variable_lines}
 use Rattle.log_schemes.specs.Layout.{log_words, word_count}
-use Rattle.ido_base.specs.Words.{durable_value}
+use Rattle.ido_base.specs.Words.{durable_value, word_of}
 use Rattle.c_tree.specs.declared.rule.Rule.{Rule}
 use Rattle.c_tree.specs.Flats.{Flat, flat_of}
-use Rattle.c_tree.specs.Source.{start}
+use Rattle.c_tree.specs.Source.{is_between, start}
 use Rattle.c_tree.specs.WellFormed.{shape_of}
-use Rattle.source_machine.specs.Lives.{ended_lives, runs_lives}
+use Rattle.source_machine.specs.Lives.{after_lives, ended_lives, runs_lives}
 use Rattle.machine_model.specs.Frames.{IsWellFormedWorld}
-use Rattle.machine_model.specs.Machine.{World, after_crash_of, is_settled, numbers_from}
+use Rattle.machine_model.specs.Machine.{World, after_crash_of, durable_point, is_settled}
+use Rattle.log_schemes.specs.Schemes.{numbers_from}
 use Rattle.rv64_isa.specs.Programs.{slot_of}
 use Rattle.machine_model.specs.Schedule.{all_lives, schedules}
 use Rattle.machine_model.proofs.Public.{crashes_simulate}
@@ -34,7 +38,9 @@ use Rattle.hart_driver.specs.declared.stop.Stop.TheVariants.{Ended, Moment, Turn
 use Rattle.compiler_correctness.specs.Images as files
 use Rattle.compiler_correctness.specs.Images.{IsResumedAsKept, first_from, image_in, steps_from, variable_words, world_from}
 use Rattle.compiler_correctness.specs.Laws.{ImagesAreCrashes}
+use Rattle.compiler_correctness.specs.SettledImages.{IsSettledImage}
 use Rattle.compiler_correctness.specs.Translations.{Translation, world}
+use Rattle.image_runs.specs.Laws.{AcceptedGoOn}
 use Rattle.run_scripts.specs.Reports as r
 use Rattle.ido_compile.specs.declared.compiler.Compiled.{Compiled}
 use Rattle.ido_compile.specs.CompileAnswers.{IsCompiledAs, translation_in}
@@ -58,7 +64,7 @@ use Rattle.ido_cli.specs.Answers.{RecoverAnswer, file_in, no_image, of_image}
 use Rattle.ido_cli.specs.CompiledImages.{BeginsCompiled, HasState, IsFaultAfter, IsImage, IsImageAnswer, no_source, no_state, no_version, refused, size_of}
 use Rattle.ido_cli.specs.CompiledImages.{threads_of, unsound, whole}
 use Rattle.ido_cli.specs.CompiledImages as answers
-use Rattle.ido_cli.specs.Laws.{UpgradesAreRecovered}
+use Rattle.ido_cli.specs.Laws.{UpgradesAreRecovered, UpgradesGoOn}
 use Rattle.run_tracker.specs.ObjectLives.{LifeConfig, is_stopped}
 use Rattle.ido_cli.specs.Recoveries.{IsRecovery, recovering}
 use Rattle.ido_cli.specs.Refusals.{image_line}
@@ -67,9 +73,9 @@ use Rattle.ido_cli.specs.Runs.{IsReport, named}
 use Rattle.ido_cli.specs.ThreadedRuns.{leg_after}
 use Rattle.ido_cli.specs.Upgrades.{IsUpgradeSaid, idle_logs, renewed, renewed_contents, too_long, unfinished}
 use Rattle.ido_cli.proofs.CompiledLimits.{ready}
-use Rattle.ido_cli.proofs.IdleWorlds.{all_settled, all_stopped, own_stays}
+use Rattle.ido_cli.proofs.IdleWorlds.{all_settled, all_stopped, own_stays, point_is}
 use Rattle.ido_cli.proofs.PlayedRuns.{has_room, sound_along}
-use Rattle.ido_cli.proofs.RecoveredRuns.{spread_size, words_in}
+use Rattle.ido_cli.proofs.RecoveredRuns.{accepted_goes_on, spread_size, words_in}
 use Rattle.ido_cli.proofs.RunImageAnswers.{initial_size, none_after, not_both_ways, one_after, thread_number}
 use Rattle.ido_cli.proofs.SameVariables.{same_variables}
 use Rattle.ido_cli.proofs.SettledReports.{none_by_settled, none_by_status, settled_by_none}
@@ -126,7 +132,7 @@ settled_out source c w kept output (renewed settled fits done told read) = (sett
 -- ---- An image of a settled world, read again
 
 module _ (one_flat : OneFlat) (never_both : NotBoth) (output source : List ℕ) (made : Compiled)
-    (version : ImageVersion) (compiled : IsCompiledAs (log_of version) source made) (again : Compiled) (accepted : IsCompiledAs V2 source again) (w : World)
+    (version : ImageVersion) (compiled : IsCompiledAs (log_of version) source made) (again : Compiled) (accepted : IsCompiledAs command_log source again) (w : World)
     (right : AreReferences (flat_of made.flat) (take (variable_words (translation_in made)) (map durable_value w.words)))
     (long : variable_words (translation_in made) ≤ length w.words) (kept : List (List ℕ)) (fits : sum_by length kept ≤ MOST_STEPS)
     (runs : runs_lives (flat_of made.flat) (start (flat_of made.flat)) kept ≡ true) (settled : is_settled w ≡ true)
@@ -174,7 +180,7 @@ module _ (one_flat : OneFlat) (never_both : NotBoth) (output source : List ℕ) 
   unfolding image_at
   begun =
       let all : image_at Third (word_bytes * length variables) threads output ≡ Ok contents =
-      spelled threads (length-replicate {A = ℕ} (log_words V2 * threads) 0) in
+      spelled threads (length-replicate {A = ℕ} (log_words command_log * threads) 0) in
       let a = bind_ok (source_at Third output)
       (λ x. state_at Third (length output) (word_bytes * length variables) threads x.1 >>= λ s. Ok (record { source = x.0; state = s })) contents all in
       let b = bind_ok (state_at Third (length output) (word_bytes * length variables) threads a.0.1) (λ s. Ok (record { source = a.0.0; state = s })) contents
@@ -203,15 +209,15 @@ module _ (one_flat : OneFlat) (never_both : NotBoth) (output source : List ℕ) 
     same_bytes : ◌≡◌ {A = List ℕ × List ℕ} (b.source, b.rest) (source, begun.rest)
     same_bytes = ok_is (b.source, b.rest) (source, begun.rest) (sym b.begins ∙ begun.begins)
 
-    here : IsCompiledAs V2 source d
-    here = subst (λ (text : List ℕ). IsCompiledAs V2 text d) (ap (λ (x : List ℕ × List ℕ). x.0) same_bytes) b.compiled
+    here : IsCompiledAs command_log source d
+    here = subst (λ (text : List ℕ). IsCompiledAs command_log text d) (ap (λ (x : List ℕ × List ℕ). x.0) same_bytes) b.compiled
 
     same_rest : b.rest ≡ begun.rest
     same_rest = ap (λ (x : List ℕ × List ℕ). x.1) same_bytes
 
     same_flat : flat_of d.flat ≡ flat
     same_flat =
-        one_flat V2 (log_of version) source (flat_of d.flat) flat here.accepted compiled.accepted
+        one_flat command_log (log_of version) source (flat_of d.flat) flat here.accepted compiled.accepted
 
     same_size : size_of d ≡ word_bytes * length variables
     same_size =
@@ -244,10 +250,10 @@ module _ (one_flat : OneFlat) (never_both : NotBoth) (output source : List ℕ) 
 
   -- ---- Nothing is at fault
 
-  sound : (d : Compiled) → flat_of d.flat ≡ flat → (error : ImageError) → ¬ (IsStateFault V2 (flat_of d.flat) d.translated.resumes.items state error)
+  sound : (d : Compiled) → flat_of d.flat ≡ flat → (error : ImageError) → ¬ (IsStateFault command_log (flat_of d.flat) d.translated.resumes.items state error)
   sound d same error =
-      none_if_sound V2 (flat_of d.flat) d.translated.resumes.items state error
-      (idle_state_sound V2 (log_words V2 * threads) (flat_of d.flat) d.translated.resumes.items variables kept fits
+      none_if_sound command_log (flat_of d.flat) d.translated.resumes.items state error
+      (idle_state_sound command_log (log_words command_log * threads) (flat_of d.flat) d.translated.resumes.items variables kept fits
       (subst (λ (x : Flat). runs_lives x (start x) kept ≡ true) (sym same) runs))
 
   not_here : (v : ImageVersion) (fault : Fault) → version_in Third output ≡ Ok v → source_at v output ≡ Err fault → ⊥
@@ -261,8 +267,8 @@ module _ (one_flat : OneFlat) (never_both : NotBoth) (output source : List ℕ) 
       at_third (λ (x : ImageVersion). source_at x output ≡ Ok (other, rest) → IsRefusedAs (log_of x) other rule place → ⊥) v is
       (λ begins broken.
       let same : ◌≡◌ {A = List ℕ × List ℕ} (other, rest) (source, begun.rest) = ok_is (other, rest) (source, begun.rest) (sym begins ∙ begun.begins) in
-      never_both V2 source (flat_of again.flat) rule place accepted.accepted
-      (subst (λ (text : List ℕ). IsRefusedAs V2 text rule place) (ap (λ (x : List ℕ × List ℕ). x.0) same) broken))
+      never_both command_log source (flat_of again.flat) rule place accepted.accepted
+      (subst (λ (text : List ℕ). IsRefusedAs command_log text rule place) (ap (λ (x : List ℕ × List ℕ). x.0) same) broken))
 
   not_after : (v : ImageVersion) (d : Compiled) (begins : BeginsCompiled Third output v d) (error : ImageError) →
       IsFaultAfter (flat_of d.flat) v (length output) (size_of d) (threads_of d) begins.rest error → ⊥
@@ -278,7 +284,7 @@ module _ (one_flat : OneFlat) (never_both : NotBoth) (output source : List ℕ) 
       at_third (λ (y : ImageVersion). HasState Third output y d x → IsStateFault (log_of y) (flat_of d.flat) d.translated.resumes.items x error → ⊥)
       v has.source.known
       (λ at fault. sound d (same_flat d at.source) error
-      (subst (λ (z : State). IsStateFault V2 (flat_of d.flat) d.translated.resumes.items z error) (state_is d x at) fault)) has
+      (subst (λ (z : State). IsStateFault command_log (flat_of d.flat) d.translated.resumes.items z error) (state_is d x at) fault)) has
 
   -- whatever is told of the bytes as a fault, is want of memory
   none_told : (error : ImageError) → IsImageAnswer Third output (Err error) → error ≡ e.Memory
@@ -325,7 +331,7 @@ module _ (one_flat : OneFlat) (never_both : NotBoth) (output source : List ℕ) 
 
     same_unsettled : unsettled_harts first ≡ unsettled_harts w
     same_unsettled =
-        all_settled variables (log_words V2 * threads) few it.runs.log it.runs.program it.runs.mutexes ∙ sym (none_by_settled w settled)
+        all_settled variables (log_words command_log * threads) few it.runs.log it.runs.program it.runs.mutexes ∙ sym (none_by_settled w settled)
 
     ends_within : end_from 0 (map shape_of flat.variables) ≤ 8 * n
     ends_within =
@@ -336,7 +342,7 @@ module _ (one_flat : OneFlat) (never_both : NotBoth) (output source : List ℕ) 
     same_values =
         let y = made.translated in
         same_variables first.words w.words n
-        (own_stays variables (log_words V2 * threads) few it.runs.log it.runs.program it.runs.mutexes w.words n refl variables_long)
+        (own_stays variables (log_words command_log * threads) few it.runs.log it.runs.program it.runs.mutexes w.words n refl variables_long)
         flat.variables (has_room flat y.object y.marks y.cuts compiled.translated) ends_within
 
     same_reports : machine_state flat first kept ≡ machine_state flat w kept
@@ -355,7 +361,28 @@ module _ (one_flat : OneFlat) (never_both : NotBoth) (output source : List ℕ) 
     stopped : (h : ℕ) → h < length it.runs.program → is_stopped (first_from it (image_in it (file_in image))) h ≡ true
     stopped h below =
         ap (λ (v : World). is_stopped v h) first_is
-        ∙ all_stopped variables (log_words V2 * threads) few it.runs.log it.runs.program it.runs.mutexes h below
+        ∙ all_stopped variables (log_words command_log * threads) few it.runs.log it.runs.program it.runs.mutexes h below
+
+    -- what it begins with is settled, where the source leaves these variables by the schedules, with every thread between sections
+    settled_image : ((thread : ℕ) → is_between (after_lives flat (start flat) kept) thread ≡ true) →
+        durable_variables w.words flat.variables ≡ (after_lives flat (start flat) kept).variables → IsSettledImage it (image_in it (file_in image))
+    unfolding after_crash_of
+    settled_image between ends = record {
+      points = λ h below.
+          ap (λ (ws : List ℕ). durable_point it.runs.log (map word_of ws) h) spread_same
+          ∙ ap durable_value (point_is variables (log_words command_log * threads) few it.runs.log h);
+      runs =
+          ap (λ (x : Flat). runs_lives x (start x) (all_lives (file_in image).kept)) same_form
+          ∙ ap (λ (lives : List (List ℕ)). runs_lives flat (start flat) lives) lives_same ∙ runs;
+      between = λ thread.
+          ap (λ (x : Flat). is_between (after_lives x (start x) (all_lives (file_in image).kept)) thread) same_form
+          ∙ ap (λ (lives : List (List ℕ)). is_between (after_lives flat (start flat) lives) thread) lives_same ∙ between thread;
+      variables =
+          ap (λ (ws : List ℕ). durable_variables (map word_of ws) it.flat.variables) spread_same
+          ∙ ap (λ (x : Flat). durable_variables first.words x.variables) same_form ∙ same_values ∙ ends
+          ∙ ap (λ (lives : List (List ℕ)). (after_lives flat (start flat) lives).variables) (sym lives_same)
+          ∙ ap (λ (x : Flat). (after_lives x (start x) (all_lives (file_in image).kept)).variables) (sym same_form);
+    }
 
     report_same : (more status : ℕ) (report : List ℕ) → IsRecovery it (file_in image) more status report → IsReport (machine_state flat w kept) status report
     report_same more status report recovery =
@@ -378,9 +405,12 @@ module _ (one_flat : OneFlat) (never_both : NotBoth) (output source : List ℕ) 
 
 -- ---- A world that a run from an image comes to
 
+many_as : (size : LogSize) (threads : ℕ) → 8192 ≤ 8 * (variable_lines + lines_of size * threads)
+many_as Lines16 threads = omega arith
+many_as Lines32 threads = omega arith
+
 many_words : (log : Log) (threads : ℕ) → 8192 ≤ word_count log threads
-many_words V1 threads = omega arith
-many_words V2 threads = omega arith
+many_words log threads = many_as (log_size log) threads
 
 module _ (input : List ℕ) (image : Image) (is : IsImage Second input image) (journal : List Event) where
   abbrev came : Translation
@@ -441,3 +471,19 @@ upgrades_are_recovered one_flat never_both references crashes input output image
     (recovered_as one_flat never_both output source made v compiled older.again older.accepted w
     (came_right input image older.is u.journal references crashes before same) (came_long input image older.is u.journal) kept out.1 resumed.runs out.0 out.2
     more status report told)
+
+pub upgrades_go_on : OneFlat → NotBoth → RunsLeaveReferences → ImagesAreCrashes → AcceptedGoOn → UpgradesGoOn
+upgrades_go_on one_flat never_both references crashes go_on input output image source before turns older same u read is events =
+    let made = image.compiled in
+    let c = translation_in made in
+    let im = image_in c (file_in image) in
+    let w = world_from c im u.journal in
+    let kept = schedules (steps_from c im u.journal) in
+    let out = settled_out source c w kept output u.said in
+    let v = older.is.version in
+    let compiled = subst (λ (text : List ℕ). IsCompiledAs (log_of v) text made) older.source_is older.is.is.source.compiled in
+    let resumed = subst (λ (file : files.Image). IsResumedAsKept c (image_in c file) u.journal) (sym same) (compiled.compilation.files before u.journal) in
+    accepted_goes_on go_on Third output read (whole read is)
+    (settled_image one_flat never_both output source made v compiled older.again older.accepted w
+    (came_right input image older.is u.journal references crashes before same) (came_long input image older.is u.journal) kept out.1 resumed.runs out.0 out.2
+    read is (resumed.between out.0) (resumed.variables out.0)) events

@@ -27,13 +27,13 @@ use Rattle.run_scripts.specs.Reports.{line}
 use Rattle.run_scripts.specs.Schedules as s
 use Rattle.run_scripts.specs.Scripts as e
 use Rattle.ido_compile.specs.CompileAnswers.{translation_in}
-use Rattle.ido_cli.specs.declared.command.Command.{Command}
-use Rattle.ido_cli.specs.declared.command.Command.TheVariants as command
-use Rattle.ido_cli.specs.Commands.{command_of, is_unread}
+use Rattle.command_words.specs.declared.command.Command.{Command}
+use Rattle.command_words.specs.declared.command.Command.TheVariants as command
+use Rattle.command_words.specs.Commands.{command_of, is_unread}
 use Rattle.ido_cli.specs.Draws.{IsGenerated, drawn_by}
 use Rattle.ido_cli.specs.Images.{IsImageAfter}
 use Rattle.ido_cli.specs.Inputs.{source_of, rest_of}
-use Rattle.ido_cli.specs.ObjectListing.{listing}
+use Rattle.object_listing.specs.ObjectListing.{listing}
 use Rattle.ido_cli.specs.Loads.{IsSummaryOf}
 use Rattle.ido_cli.specs.Plays.{IsPlayed, IsRunBy, IsTranslationOf, ScriptAnswer, beginning}
 use Rattle.ido_cli.specs.Recoveries.{IsRecovery}

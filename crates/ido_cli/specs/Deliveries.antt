@@ -4,8 +4,8 @@ use Rattle.ido_base.specs.declared.limits.TheConstants.{MOST_INPUT_BYTES}
 use Rattle.ido_outside.specs.Causes.{Rose}
 use Rattle.ido_outside.specs.Sink.{Adds, AddsPrefix}
 use Rattle.ido_cli.specs.declared.said.Said.{Said}
-use Rattle.ido_cli.specs.declared.command.Command.{Command}
-use Rattle.ido_cli.specs.Commands.{reads_input}
+use Rattle.command_words.specs.declared.command.Command.{Command}
+use Rattle.command_words.specs.Commands.{reads_input}
 use Rattle.ido_cli.specs.Answers.{AnswerToInput, Refuses}
 
 -- What was taken of what was left where the source tells it: all of it, for a command that reads its input; nothing, for one that doesn't; none where it is

@@ -1,5 +1,5 @@
 -- What words and an input are answered is at most one thing; an image that `image` wrote is recovered from, and a journal is played.
-use Rattle.std.specs.Prelude.{◌≡◌, ◌≤◌, ℕ, List, ◌∷◌, ◌++◌, All, length, true, false, Option, Some, None, codes, if◌then◌else◌}
+use Rattle.std.specs.Prelude.{◌≡◌, ◌≢◌, ◌≤◌, ℕ, List, ◌∷◌, ◌++◌, All, length, true, false, Option, Some, None, codes, if◌then◌else◌}
 use Rattle.machine_events.specs.declared.event.Event.{Event}
 use Rattle.machine_events.specs.declared.event.Event.TheVariants.{Crash}
 use Rattle.machine_events.specs.Cores.{IsValidNow}
@@ -8,20 +8,22 @@ use Rattle.c_tree.specs.Flats.{Flat}
 use Rattle.ido_base.specs.declared.place.Place.{Place}
 use Rattle.c_tree.specs.declared.rule.Rule.{Rule}
 use Rattle.crash_images.specs.declared.version.ImageVersion.{ImageVersion}
-use Rattle.crash_images.specs.declared.version.ImageVersion.TheVariants.{Second}
-use Rattle.log_schemes.specs.declared.log.Log.TheVariants.{V2}
+use Rattle.crash_images.specs.declared.version.ImageVersion.TheVariants.{Second, Third}
+use Rattle.crash_images.specs.Contents.{log_of}
 use Rattle.ido_compile.specs.declared.compiler.Compiled.{Compiled}
 use Rattle.ido_compile.specs.LoggedTexts.{IsAcceptedAs, IsRefusedAs}
 use Rattle.run_scripts.specs.Reports.{line}
-use Rattle.ido_cli.specs.CompiledImages.{BeginsCompiled}
+use Rattle.ido_cli.specs.CompiledImages.{BeginsCompiled, IsImage}
+use Rattle.compiler_correctness.specs.Images.{image_in}
+use Rattle.compiler_correctness.specs.SettledImages.{IsCarriedOn}
 use Rattle.flat_compile.specs.TranslatedForms.{command_log}
 use Rattle.compiler_correctness.specs.Translations.{Translation}
 use Rattle.run_scripts.specs.Journals.{ends_line, journal_text}
 use Rattle.run_scripts.specs.Plays.{MayStart}
 use Rattle.run_scripts.specs.Scripts.{Fault, IsEviction, Refused, read}
-use Rattle.ido_cli.specs.declared.command.Command.{Command}
-use Rattle.ido_cli.specs.declared.command.Command.TheVariants as command
-use Rattle.ido_cli.specs.Commands.{command_of}
+use Rattle.command_words.specs.declared.command.Command.{Command}
+use Rattle.command_words.specs.declared.command.Command.TheVariants as command
+use Rattle.command_words.specs.Commands.{command_of}
 use Rattle.ido_cli.specs.Images.{IsImageAfter}
 use Rattle.ido_cli.specs.Inputs.{source_of, rest_of}
 use Rattle.ido_cli.specs.Plays.{IsRunBy, IsTranslationOf, beginning}
@@ -31,7 +33,8 @@ use Rattle.ido_cli.specs.Answers.{Answer, IsPastLimits, PlayAnswer, RecoverAnswe
 use Rattle.ido_compile.specs.CompileAnswers.{translation_in}
 use Rattle.image_checks.specs.RunImages.{left_by}
 use Rattle.ido_cli.specs.declared.compiled_image.Image.{Image}
-use Rattle.ido_cli.specs.Upgrades.{IsOlderImage, IsUpgrade}
+use Rattle.ido_cli.specs.ImagesReadAgain.{IsRunImage}
+use Rattle.ido_cli.specs.Upgrades.{IsOlderImage, IsUpgrade, IsUpgradedRun}
 
 -- what is written stands on no compilation, nor on how threads ran
 abbrev pub IsPlain : Option Command → Type 0
@@ -89,7 +92,19 @@ OneAnswer = (words : List (List ℕ)) (input : List ℕ) (status other : ℕ) (o
 abbrev pub RunsAreRecovered : Type 0
 RunsAreRecovered = (source image : List ℕ) (flat : Flat) (c : Translation) (before : List Event) (turns status answer : ℕ) (output : List ℕ) →
     IsAcceptedAs command_log source flat → IsTranslationOf flat c → length before ≤ MOST_EVENTS → IsImageAfter source c before status image →
-    RecoverAnswer turns image answer output → IsRecoveredRun source c before turns answer output
+    RecoverAnswer turns image answer output → IsRecoveredRun command_log source c before turns answer output
+
+-- and so `recover` reads what a run of any version's log has left, as a file of that version
+abbrev pub RunImagesAreRecovered : Type 0
+RunImagesAreRecovered = (version : ImageVersion) (source image : List ℕ) (c : Translation) (before : List Event) (turns status : ℕ) (output : List ℕ) →
+    IsRunImage version source c before image → RecoverAnswer turns image status output →
+    IsRecoveredRun (log_of version) source c before turns status output
+
+-- and `upgrade`, where the version is an older one
+abbrev pub RunImagesAreUpgraded : Type 0
+RunImagesAreUpgraded = (version : ImageVersion) (source image : List ℕ) (c : Translation) (before : List Event) (turns status : ℕ) (output : List ℕ) →
+    version ≢ Third → IsRunImage version source c before image → UpgradeAnswer turns image status output →
+    IsUpgradedRun (log_of version) source c before turns status output
 
 -- What `upgrade` writes of an image that a run of the translation to which its source is compiled has left is recovered as what it is, whatever turns are
 -- given: what is said is what `play` says of the events of that run, a crash, and the leg of `upgrade`.
@@ -99,10 +114,18 @@ UpgradesAreRecovered = (input output : List ℕ) (image : Image) (source : List 
     (u : IsUpgrade source c (file_in image) turns 0 output) → RecoverAnswer more output status report →
     IsRunBy c (before ++ Crash ∷ u.journal) status report
 
+-- Lives that go on from that file, whatever happens and by whichever translation its source is compiled to then, keep what those keep that began at the
+-- source's start.
+abbrev pub UpgradesGoOn : Type 0
+UpgradesGoOn = (input output : List ℕ) (image : Image) (source : List ℕ) (before : List Event) (turns : ℕ) →
+    IsOlderImage input image source → let c = translation_in image.compiled in file_in image ≡ left_by c before →
+    IsUpgrade source c (file_in image) turns 0 output → (read : Image) → IsImage Third output read → let d = translation_in read.compiled in
+    (events : List Event) → IsCarriedOn d (image_in d (file_in read)) events
+
 -- An image of an older version whose source is refused for the newest log is answered so, whatever else is wrong with it: the source comes first.
 abbrev pub OlderSourcesComeFirst : Type 0
 OlderSourcesComeFirst = (turns : ℕ) (input : List ℕ) (version : ImageVersion) (c : Compiled) (rule : Rule) (place : Place) →
-    (begins : BeginsCompiled Second input version c) → IsRefusedAs V2 begins.source rule place → (status : ℕ) (output : List ℕ) →
+    (begins : BeginsCompiled Second input version c) → IsRefusedAs command_log begins.source rule place → (status : ℕ) (output : List ℕ) →
     UpgradeAnswer turns input status output → (status ≡ 6) × (output ≡ line (codes "refused I4"))
 
 -- with an LF at its end

@@ -1,4 +1,3 @@
-pub mod Commands
 pub mod Refusals
 pub mod Runs
 pub mod Inputs
@@ -16,8 +15,6 @@ pub mod Recoveries
 pub mod Upgrades
 pub mod Regions
 pub mod Deliveries
-pub mod Instructions
-pub mod ObjectListing
 pub mod Answers
 pub mod Laws
 pub mod CompiledLives

@@ -19,7 +19,7 @@ OrderedLivesGoOn = (log : Log) (text : List ℕ) (c : Compiled) (cap : ℕ) (lif
 
 -- and so it is of a life that began with the file which a run of the same translation has left
 abbrev pub OrderedLivesOfFilesGoOn : Type 0
-OrderedLivesOfFilesGoOn = (log : Log) (text : List ℕ) (c : Compiled) (before : List Event) (ended : List ℕ) (cap : ℕ) (life : Course) → IsCompiledAs log text c →
-    order_fault (flat_of c.flat) ≡ None → let file = left_by (translation_in c) before in
+OrderedLivesOfFilesGoOn = (log : Log) (text : List ℕ) (c : Compiled) (before : List Event) (ended : List ℕ) (cap : ℕ) (life : Course) →
+    IsCompiledAs log text c → order_fault (flat_of c.flat) ≡ None → let file = left_by (translation_in c) before in
     opening_of life ≡ opening_of (life_from c.translated.object c.translated.marks file.words file.kept ended cap) →
     (least_enabled living (played living (opening_of life) life.journal) (length life.runs.program) ≡ None) ↔ HaveStopped (world_of life)

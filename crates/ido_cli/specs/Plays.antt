@@ -10,7 +10,8 @@ use Rattle.source_machine.specs.Lives.{after_lives, runs_lives}
 use Rattle.machine_model.specs.declared.object.Object.{Object}
 use Rattle.rv64_isa.specs.declared.object.Marks.{Marks}
 use Rattle.machine_model.specs.Executables.{first_world}
-use Rattle.machine_model.specs.Machine.{can_start, numbers_from}
+use Rattle.machine_model.specs.Machine.{can_start}
+use Rattle.log_schemes.specs.Schemes.{numbers_from}
 use Rattle.machine_model.specs.Schedule.{only_life, schedules}
 use Rattle.flow_graph.specs.declared.cuts.Cuts.{Cuts}
 use Rattle.flat_compile.specs.TranslatedForms.{IsTranslated}

@@ -8,7 +8,7 @@ use Rattle.compiler_correctness.specs.Images.{Image, file_of, first_from, image_
 use Rattle.ido_compile.specs.declared.compiler.Compiled.{Compiled}
 use Rattle.ido_compile.specs.CompileAnswers.{IsCompiledAs, translation_in}
 use Rattle.image_checks.specs.declared.error.ImageError.{ImageError}
-use Rattle.log_schemes.specs.declared.log.Log.TheVariants.{V2}
+use Rattle.log_schemes.specs.declared.log.Log.{Log}
 use Rattle.image_checks.specs.Checks.{IsThreadFault}
 use Rattle.image_checks.specs.Logs.{logs_of}
 use Rattle.image_checks.specs.RunImages.{file_state, left_by}
@@ -43,12 +43,12 @@ pub record IsRecovery (c : Translation) (file : Image) (turns status : ℕ) (out
 
 -- ---- The image of a run
 
--- what is said of the image that a run of a translation has left
-pub data IsRecoveredRun (source : List ℕ) (c : Translation) (before : List Event) (turns status : ℕ) (output : List ℕ) : Type 0 where
+-- what is said of the image that a run of a translation has left, whose threads log so
+pub data IsRecoveredRun (log : Log) (source : List ℕ) (c : Translation) (before : List Event) (turns status : ℕ) (output : List ℕ) : Type 0 where
   -- It is read as what was left, and the source compiled again. Where that is the same translation, its run goes on: `goes_on` says so of these events.
-  recovered : (again : Compiled) → IsCompiledAs V2 source again → IsRecovery (translation_in again) (left_by c before) turns status output →
-      IsRecoveredRun source c before turns status output
+  recovered : (again : Compiled) → IsCompiledAs log source again → IsRecovery (translation_in again) (left_by c before) turns status output →
+      IsRecoveredRun log source c before turns status output
   -- the source is compiled to another translation, and a thread can't be resumed by its places
-  refused : (other : Compiled) (error : ImageError) → IsCompiledAs V2 source other → translation_in other ≢ c →
-      IsThreadFault (flat_of other.flat) other.translated.resumes.items (logs_of V2 (file_state c (left_by c before)).logs) error → status ≡ 6 →
-      image_line error ≡ Some output → IsRecoveredRun source c before turns status output
+  refused : (other : Compiled) (error : ImageError) → IsCompiledAs log source other → translation_in other ≢ c →
+      IsThreadFault (flat_of other.flat) other.translated.resumes.items (logs_of log (file_state c (left_by c before)).logs) error → status ≡ 6 →
+      image_line error ≡ Some output → IsRecoveredRun log source c before turns status output

@@ -7,7 +7,8 @@ use Rattle.source_machine.specs.Lives.{ended_lives}
 use Rattle.c_tree.specs.WellFormed.{elements_in}
 use Rattle.ido_base.specs.Words.{Word, durable_value}
 use Rattle.ido_ints.specs.Kinds.{bytes_of}
-use Rattle.machine_model.specs.Machine.{World, numbers_from}
+use Rattle.machine_model.specs.Machine.{World}
+use Rattle.log_schemes.specs.Schemes.{numbers_from}
 use Rattle.machine_model.specs.Machine.{is_settled_hart}
 use Rattle.variable_words.specs.Variables.{durable_variables, number_of_byte}
 use Rattle.run_scripts.specs.Reports as r

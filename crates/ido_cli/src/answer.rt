@@ -1,13 +1,11 @@
 //! The answer to an input.
 ghost use Rattle.std.specs.Prelude.{◌≡◌, ◌≤◌, true, false, length, IfOk};
 ghost use Rattle.ido_base.specs.declared.limits.TheConstants.{MOST_INPUT_BYTES, MOST_SOURCE_BYTES};
-ghost use Rattle.ido_cli.specs.declared.command.Command.TheVariants as command;
+ghost use Rattle.command_words.specs.declared.command.Command.TheVariants as command;
 ghost use Rattle.ido_cli.specs.Answers.{AnswerToInput, CommandAnswer};
-ghost use Rattle.ido_cli.specs.Commands.{needs_threads};
+ghost use Rattle.command_words.specs.Commands.{needs_threads};
 ghost use Rattle.ido_cli.specs.links.RunRequests.{command_asking, command_making};
 
-use crate::command::Command;
-use crate::crashes::Crashes;
 use crate::input::split;
 use crate::list::list_answer;
 use crate::live::{LiveRun, live_answer};
@@ -24,6 +22,8 @@ use crate::seeded::seeded_answer;
 use crate::source::source_answer;
 use crate::sweep::sweep_answer;
 use crate::upgrade::upgrade_answer;
+use command_words::command::Command;
+use command_words::crashes::Crashes;
 use ido_base::limits::MOST_SOURCE_BYTES;
 use ido_base::memory::OutOfMemory;
 use ido_outside::Gate;

@@ -24,7 +24,7 @@ use crash_images::version::ImageVersion;
 use file_fields::error::ReadError;
 use ido_base::memory::OutOfMemory;
 use ido_compile::laws::one_verdict;
-use ido_compile::{CompileError, Compiled, compile_as};
+use ido_compile::{CompileError, Compiled, compile};
 use image_checks::error::ImageError;
 use image_checks::references::check_references;
 use image_checks::state::check_state;
@@ -64,7 +64,7 @@ pub fn compiled_source(alloc: Global, log: Log, source: &[u8]) -> Result<Compile
     ensures { MatchResult result (λ compiled. IsCompiledAs log source.now compiled)
         (λ fault. (error : CompileError) × (fault ≡ image_fault error) × IsCompileAnswerAs log source.now (Err error)) }
 {
-    match compile_as(alloc, log, source) {
+    match compile(alloc, log, source) {
         Ok(compiled) => Ok(compiled),
         Err(error) => Err(source_fault(error)),
     }

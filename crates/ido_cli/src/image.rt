@@ -5,16 +5,16 @@ ghost use Rattle.crash_images.specs.Contents.{contents, most_logs};
 ghost use Rattle.crash_images.specs.ImageDecoder.{IsReadAs};
 ghost use Rattle.crash_images.specs.ImageEncoder.{spelling};
 ghost use Rattle.crash_images.specs.declared.version.ImageVersion.TheVariants.{Third};
-ghost use Rattle.log_schemes.specs.declared.log.Log.TheVariants.{V2};
+ghost use Rattle.flat_compile.specs.TranslatedForms.{command_log};
 ghost use Rattle.machine_model.specs.Schedule.{schedules};
 ghost use Rattle.run_scripts.specs.links.ReportViews.{steps_of};
 ghost use Rattle.run_tracker.specs.ObjectLives.{left_words, steps_in, variable_words_in, world_of};
 
 use crate::report::kept_schedules;
 use crate::said::Said;
+use crate::scheme::COMMAND_LOG;
 use crash_images::writing::write_image;
 use ido_base::memory::OutOfMemory;
-use log_schemes::log::Log;
 use machine_model::object::Object;
 use run_tracker::life::Life;
 use std::alloc::Global;
@@ -41,7 +41,7 @@ pub fn image(
     requires variables { variable_words_in life.now ≤ VARIABLE_WORDS }
     requires object { variable_words_in life.now ≡ length object.now.initial.items / 8 }
     requires within { variable_words_in life.now ≤ length (left_words (variable_words_in life.now) (world_of life.now).words) }
-    requires logs { length (left_words (variable_words_in life.now) (world_of life.now).words) ≤ variable_words_in life.now + most_logs V2 }
+    requires logs { length (left_words (variable_words_in life.now) (world_of life.now).words) ≤ variable_words_in life.now + most_logs command_log }
     requires lives { length (schedules (steps_in life.now)) ≤ MOST_STEPS + 1 }
     requires steps { sum_by length (schedules (steps_in life.now)) ≤ MOST_STEPS }
     ensures status { IfOk result (λ said. said.status ≡ 0) }
@@ -58,6 +58,6 @@ pub fn image(
     let words = life.durable_words(alloc)?;
     let (variables, logs) = words.split_at(object.initial.len() / 8);
     let kept = kept_schedules(alloc, life)?;
-    let output = write_image(alloc, Log::V2, source, variables, logs, &kept)?;
+    let output = write_image(alloc, COMMAND_LOG, source, variables, logs, &kept)?;
     Ok(Said { status: 0, output })
 }

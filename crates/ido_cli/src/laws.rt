@@ -2,13 +2,15 @@
 ghost use Rattle.ido_cli.specs.CompiledLives.{LivesAreCompiled, LivesCountSections, LivesOfFilesAreCompiled, LivesOfFilesCountSections};
 ghost use Rattle.ido_cli.specs.ImagesReadAgain.{RunImagesAreRead};
 ghost use Rattle.ido_cli.specs.OrderedLives.{OrderedLivesGoOn, OrderedLivesOfFilesGoOn};
-ghost use Rattle.ido_cli.specs.Laws.{JournalsArePlayed, OlderSourcesComeFirst, OneAnswer, RunsAreRecovered, UpgradesAreRecovered};
+ghost use Rattle.ido_cli.specs.Laws.{JournalsArePlayed, OlderSourcesComeFirst, OneAnswer, RunImagesAreRecovered, RunImagesAreUpgraded};
+ghost use Rattle.ido_cli.specs.Laws.{RunsAreRecovered, UpgradesAreRecovered, UpgradesGoOn};
 
 use compiler_correctness::laws::{images_are_crashes, machines_record};
 use crash_simulation::laws::machines_resume;
 use deadlock_freedom::laws::none_deadlocks;
 use ido_compile::laws::{files_begin, one_verdict};
 use image_checks::laws::runs_leave_no_fault;
+use image_runs::laws::accepted_images_go_on;
 use run_scripts::laws::journals_are_played_back;
 use run_tracker::life::Life;
 use source_machine::laws::lives_stop_once;
@@ -56,7 +58,8 @@ pub fn ordered_lives_go_on()
 }
 
 /// What `write_image` makes of a run is read by `read_image` as what it is: the same source, words and schedule. It is refused
-/// only where the source is compiled to another translation than the one that ran.
+/// only where the source is compiled to another translation than the one that ran. So it is of the file of a run of either log, in each version of that log
+/// up to the newest that is asked for.
 pub fn run_images_are_read()
     ensures { RunImagesAreRead }
 {
@@ -67,22 +70,39 @@ pub fn run_images_are_read()
 }
 
 /// An image that `image` wrote is read by `recover` as what the run has left: never refused, where the source is compiled to the same translation
-/// again. Then the run goes on after its last event, and what is said is what `play` says of the events, a crash, and a leg.
+/// again. Then the run goes on after its last event, and what is said is what `play` says of the events, a crash, and a leg. So it is of what a run of the
+/// older log has left, as a file of that log's version.
 pub fn runs_are_recovered()
-    ensures { RunsAreRecovered }
+    ensures written { RunsAreRecovered }
+    ensures files { RunImagesAreRecovered }
 {
     run_images_are_read();
 }
 
+/// What a run has left, as a file of an older version, `upgrade` refuses only where its source is refused for the newest log, by I4, or where after the leg
+/// more steps are kept than a file can have, by I9 at the first step beyond; and else only where the source is compiled to another translation than the one
+/// that ran.
+pub fn run_images_are_upgraded()
+    ensures { RunImagesAreUpgraded }
+{
+    one_verdict();
+    machines_resume();
+    machines_record();
+    runs_leave_no_fault();
+}
+
 /// What `upgrade` writes of an image that a run has left, where its source was compiled to the translation of that run again, is read by `recover` as what
 /// it is, to whatever translation its source is compiled then: it is never refused, and with whatever turns what is said is what `play` says of the events
-/// of that run, a crash, and the leg of `upgrade`. Each thread stands between sections there, so that no hart makes a step more.
+/// of that run, a crash, and the leg of `upgrade`. Each thread stands between sections there, so that no hart makes a step more; and the lives that go on from
+/// it keep what those keep that began at the source's start.
 pub fn upgrades_are_recovered()
-    ensures { UpgradesAreRecovered }
+    ensures read { UpgradesAreRecovered }
+    ensures lives { UpgradesGoOn }
 {
     one_verdict();
     images_are_crashes();
     runs_leave_no_fault();
+    accepted_images_go_on();
 }
 
 /// `upgrade` refuses an image of an older version whose source is refused for the newest log by I4, whatever stands after the source.
@@ -93,8 +113,8 @@ pub fn older_sources_come_first()
 }
 
 /// What `live --journal` or `seeded --journal` writes of a source that has no line `%%` is an input of `play`, which answers it with the report of the very
-/// events that are told: it is refused nowhere, and the source is compiled again, to which translation isn't said. A source that doesn't end with an LF has one then, and is
-/// accepted with it as it is without; only where that makes it longer than a source may be, the input is past the limits.
+/// events that are told: it is refused nowhere, and the source is compiled again, to which translation isn't said. A source that doesn't end with an LF has
+/// one then, and is accepted with it as it is without; only where that makes it longer than a source may be, the input is past the limits.
 pub fn journals_are_played()
     ensures { JournalsArePlayed }
 {

@@ -2,20 +2,15 @@
 #![tactic(auto)]
 
 mod answer;
-mod command;
 mod compiled_image;
-mod crashes;
 mod durable;
 mod image;
 mod input;
-mod instruction;
 pub mod laws;
 mod list;
-mod listing;
 mod live;
 mod load;
 mod make;
-mod mnemonic;
 mod object;
 mod order;
 mod play;
@@ -24,6 +19,7 @@ mod refusal;
 mod regions;
 mod report;
 mod said;
+mod scheme;
 mod seeded;
 mod source;
 mod sweep;

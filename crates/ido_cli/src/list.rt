@@ -3,13 +3,13 @@ ghost use Rattle.std.specs.Prelude.{◌≡◌, ◌≤◌, length, IfOk};
 ghost use Rattle.ido_base.specs.declared.limits.TheConstants.{MOST_INPUT_BYTES};
 ghost use Rattle.ido_cli.specs.Answers.{ListAnswer};
 
-use crate::listing::listing;
 use crate::refusal::{VERSION_PLACE, refused_at_byte};
 use crate::said::Said;
 use file_fields::error::ReadError;
 use ido_base::memory::OutOfMemory;
 use ido_base::place::Place;
 use object_format::reading::read_object;
+use object_listing::listing::listing;
 use std::alloc::Global;
 
 /// The answer to an input of `list`.

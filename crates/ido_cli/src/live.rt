@@ -22,6 +22,7 @@ ghost use Rattle.ido_cli.specs.links.LegRuns.{CanRun, HasCrashed, HasRunLegs, Is
 use crate::refusal::source_refused;
 use crate::report::say;
 use crate::said::Said;
+use crate::scheme::COMMAND_LOG;
 use c_tree::flat::Flat;
 use hart_driver::drive::drive;
 use ido_base::limits::LINE_BYTES;
@@ -194,7 +195,7 @@ pub fn live_answer<R: Threads + Wait + Sync, G: Gate + Sync>(
     ensures { IfOk result (λ said.
         LiveAnswer asked.entry.turns asked.entry.crashes.now asked.entry.evict asked.entry.journal source.now said.status said.output.items) }
 {
-    match compile(alloc, source) {
+    match compile(alloc, COMMAND_LOG, source) {
         Ok(compiled) => ran(rt, alloc, source, &compiled, asked, gate),
         Err(error) => source_refused(alloc, source, error),
     }

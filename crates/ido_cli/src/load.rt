@@ -17,6 +17,7 @@ use crate::live::MOST_LEG_EVENTS;
 use crate::refusal::source_refused;
 use crate::report::reported;
 use crate::said::Said;
+use crate::scheme::COMMAND_LOG;
 use c_tree::flat::Flat;
 use hart_driver::drive::drive;
 use ido_base::memory::OutOfMemory;
@@ -167,7 +168,7 @@ pub fn load_answer<R: Threads + Wait + Sync, G: Gate + Sync>(
     ensures { IfOk result (λ said. LoadAnswer count seed said.status said.output.items) }
 {
     let source = make_program(alloc, count, seed)?;
-    match compile(alloc, &source) {
+    match compile(alloc, COMMAND_LOG, &source) {
         Ok(compiled) => loaded(rt, alloc, &compiled, gate),
         Err(error) => source_refused(alloc, &source, error),
     }

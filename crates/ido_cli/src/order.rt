@@ -9,6 +9,7 @@ ghost use Rattle.ido_cli.specs.Answers.{OrderAnswer};
 
 use crate::refusal::{refused_after, source_refused};
 use crate::said::Said;
+use crate::scheme::COMMAND_LOG;
 use c_tree::flat::Flat;
 use ido_base::memory::OutOfMemory;
 use ido_compile::front;
@@ -46,7 +47,7 @@ pub fn order_answer(alloc: Global, source: &[u8]) -> Result<Said, OutOfMemory>
     requires { length source.now ≤ MOST_SOURCE_BYTES }
     ensures { IfOk result (λ said. OrderAnswer source.now said.status said.output.items) }
 {
-    match front(alloc, source) {
+    match front(alloc, COMMAND_LOG, source) {
         Ok(flat) => flat_order(alloc, source, &flat),
         Err(error) => source_refused(alloc, source, error),
     }

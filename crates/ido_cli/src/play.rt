@@ -27,6 +27,7 @@ use crate::image::image;
 use crate::refusal::{refused_at, source_refused};
 use crate::report::say;
 use crate::said::Said;
+use crate::scheme::COMMAND_LOG;
 use c_tree::flat::Flat;
 use ido_base::limits::MOST_EVENTS;
 use ido_base::memory::OutOfMemory;
@@ -220,7 +221,7 @@ pub fn scripted_answer(
     requires rest { rest.now ≡ rest_of input.now }
     ensures { IfOk result (λ said. ScriptedAnswer (Says asked (source_of input.now)) input.now said.status said.output.items) }
 {
-    match compile(alloc, source) {
+    match compile(alloc, COMMAND_LOG, source) {
         Ok(compiled) => compiled_answer(alloc, asked, &compiled, input, rest),
         Err(error) => source_refused(alloc, source, error),
     }

@@ -10,9 +10,9 @@ ghost use Rattle.ido_cli.specs.links.Regions.{HasSets, HaveNodes, HaveSets, IsRe
 ghost use Rattle.ido_cli.specs.Regions.{action_name, boundaries_inside, cut_mark, is_chosen, is_in_section, least_line, least_lines};
 ghost use Rattle.ido_cli.specs.Regions.{AreTold, node_line, node_lines, regions, stretch_line, thread_line};
 
-use crate::instruction::put;
 use crate::refusal::{place_in, source_refused};
 use crate::said::Said;
+use crate::scheme::COMMAND_LOG;
 use c_tree::flat::Thread;
 use flat_analysis::Analysis;
 use flat_compile::translate;
@@ -22,8 +22,8 @@ use ido_base::memory::OutOfMemory;
 use ido_compile::laws::translations_are_compilations;
 use ido_compile::{CompileError, checked, flatten};
 use lock_discipline::Held;
-use log_schemes::log::Log;
 use region_cutter::{Stretch, stretches};
+use run_scripts::report::put;
 use std::alloc::Global;
 
 /// The name of what a node does.
@@ -256,9 +256,9 @@ fn source_regions(alloc: Global, source: &[u8], least: bool) -> Result<Vec<u8>, 
     ensures { IsRegionsAnswer least source.now result }
 {
     translations_are_compilations();
-    let flat = flatten(alloc, source)?;
-    let analysis = checked(alloc, source, &flat)?;
-    let translated = translate(alloc, Log::V2, &analysis)?;
+    let flat = flatten(alloc, COMMAND_LOG, source)?;
+    let analysis = checked(alloc, COMMAND_LOG, source, &flat)?;
+    let translated = translate(alloc, COMMAND_LOG, &analysis)?;
     let stretches = told(alloc, &analysis.graph, least)?;
     let output = regions(alloc, source, &analysis, &translated.cuts, &stretches)?;
     Ok(output)

@@ -3,7 +3,7 @@ ghost use Rattle.std.specs.Prelude.{◌≡◌, ◌≤◌, ◌<◌, ◌^◌, leng
 ghost use Rattle.ido_base.specs.declared.limits.TheConstants.{MOST_THREADS};
 ghost use Rattle.c_tree.specs.Flats.{flat_of};
 ghost use Rattle.c_tree.specs.Source as m;
-ghost use Rattle.machine_model.specs.Machine.{numbers_from};
+ghost use Rattle.log_schemes.specs.Schemes.{numbers_from};
 ghost use Rattle.run_scripts.specs.links.ReportViews as views;
 ghost use Rattle.run_tracker.specs.ObjectLives.{ended_sections, world_of, steps_in};
 ghost use Rattle.c_tree.specs.WellFormed.{shape_of};

@@ -11,6 +11,7 @@ ghost use Rattle.ido_cli.specs.Draws.{drawn_by};
 use crate::live::told;
 use crate::refusal::source_refused;
 use crate::said::Said;
+use crate::scheme::COMMAND_LOG;
 use ido_base::limits::LINE_BYTES;
 use ido_base::memory::OutOfMemory;
 use ido_compile::{Compiled, compile};
@@ -66,7 +67,7 @@ pub fn seeded_answer(
     requires { length source.now ≤ MOST_SOURCE_BYTES }
     ensures { IfOk result (λ said. SeededAnswer seed turns crashes.now journal source.now said.status said.output.items) }
 {
-    match compile(alloc, source) {
+    match compile(alloc, COMMAND_LOG, source) {
         Ok(compiled) => drawn_answer(alloc, source, &compiled, seed, turns, crashes, journal),
         Err(error) => source_refused(alloc, source, error),
     }

@@ -18,6 +18,7 @@ ghost use Rattle.ido_cli.specs.Runs.{IsReport, RunAnswer, counted, run_state, ta
 use crate::refusal::{refused_at, refused_at_step, source_refused, stop_code};
 use crate::report::say_reported;
 use crate::said::Said;
+use crate::scheme::COMMAND_LOG;
 use c_tree::flat::Flat;
 use ido_base::memory::OutOfMemory;
 use ido_compile::front;
@@ -197,7 +198,7 @@ pub fn source_answer(
     requires rest { rest.now ≡ rest_of input.now }
     ensures { IfOk result (λ said. SourceAnswer input.now said.status said.output.items) }
 {
-    match front(alloc, source) {
+    match front(alloc, COMMAND_LOG, source) {
         Ok(flat) => flat_answer(alloc, &flat, input, rest),
         Err(error) => source_refused(alloc, source, error),
     }

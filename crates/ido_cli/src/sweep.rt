@@ -17,6 +17,7 @@ use crate::play::script_refused;
 use crate::refusal::{refused_at, source_refused};
 use crate::report::say;
 use crate::said::Said;
+use crate::scheme::COMMAND_LOG;
 use crate::table::table;
 use c_tree::flat::Flat;
 use flat_compile::Translated;
@@ -72,9 +73,10 @@ fn outcome_after(points: &CrashPoints, k: u32) -> Result<Outcome, OutOfMemory>
 {
     let life = life_after(points, k)?;
     let said = say(points.alloc, &points.flat, &life)?;
+    let report = Report::new(points.alloc, said.output)?;
     Ok(Outcome {
         settled: said.status == 0,
-        report: Report::new(said.output),
+        report,
     })
 }
 
@@ -283,7 +285,7 @@ pub fn sweep_answer<R: Threads + Sync, G: Gate + Sync>(
     requires rest { rest.now ≡ rest_of input.now }
     ensures { IfOk result (λ said. SweepAnswer input.now said.status said.output.items) }
 {
-    match compile(alloc, source) {
+    match compile(alloc, COMMAND_LOG, source) {
         Ok(compiled) => compiled_answer(rt, alloc, compiled, input, rest, gate),
         Err(error) => source_refused(alloc, source, error),
     }

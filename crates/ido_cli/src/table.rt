@@ -2,10 +2,10 @@
 ghost use Rattle.std.specs.Prelude.{◌≡◌, ◌≢◌, ◌+◌, ◌≤◌, ◌++◌, length, replicate, slice_get, take, IfOk, OnOk, Some};
 ghost use Rattle.ido_cli.specs.Sweeps.{IsTable, reports_of, run_text};
 
-use crate::instruction::put;
 use hart_driver::report::Report;
 use hart_driver::sweep::Outcome;
 use ido_base::memory::OutOfMemory;
+use run_scripts::report::put;
 use std::alloc::Global;
 
 /// How many outcomes at the front have this report.

@@ -2,13 +2,13 @@
 ghost use Rattle.std.specs.Prelude.{◌≡◌, ◌⊎◌, true, false, map, option_map, string_bytes, codes, IfOk, IsErrOf, OnErr, None, Some, IfSome};
 ghost use Rattle.ido_outside.specs.Causes.{Rose};
 ghost use Rattle.ido_cli.specs.Answers.{IsAnswered, Refuses, outside};
-ghost use Rattle.ido_cli.specs.Commands.{command_of, is_threaded, is_unread, needs_threads, reads_input};
+ghost use Rattle.command_words.specs.Commands.{command_of, is_threaded, is_unread, needs_threads, reads_input};
 ghost use Rattle.ido_cli.specs.Deliveries.{IsSaidTo, IsSaidToInput, IsTaken, IsDelivered};
 
 use crate::answer::{answer, threaded_answer};
-use crate::command::{Command, command_of};
 use crate::refusal::refused;
 use crate::said::Said;
+use command_words::command::{Command, command_of};
 use ido_base::limits::MOST_INPUT_BYTES;
 use ido_base::memory::OutOfMemory;
 use ido_outside::{Failed, Gate, InFault, Sink, Source, read_all, write_all};

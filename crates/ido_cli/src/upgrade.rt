@@ -11,7 +11,7 @@ ghost use Rattle.crash_images.specs.ImageDecoder.{IsReadAs};
 ghost use Rattle.crash_images.specs.ImageEncoder.{spelling};
 ghost use Rattle.crash_images.specs.declared.version.ImageVersion.TheVariants.{Third};
 ghost use Rattle.flat_compile.specs.TranslatedForms.{IsTranslatedAs};
-ghost use Rattle.log_schemes.specs.declared.log.Log.TheVariants.{V2};
+ghost use Rattle.flat_compile.specs.TranslatedForms.{command_log};
 ghost use Rattle.compiler_correctness.specs.Compilations.{IsCompilation};
 ghost use Rattle.ido_compile.specs.CompileAnswers.{IsCompiledAs, translation_in};
 ghost use Rattle.run_tracker.specs.ObjectLives.{left_words, steps_in, variable_words_in, world_of};
@@ -26,6 +26,7 @@ use crate::recover::{image_refused, recovered_life};
 use crate::refusal::refused_at_step;
 use crate::report::say_by_source;
 use crate::said::Said;
+use crate::scheme::COMMAND_LOG;
 use compiler_correctness::laws::images_are_crashes;
 use crash_images::version::ImageVersion;
 use crash_images::writing::write_image;
@@ -35,7 +36,6 @@ use ido_compile::laws::one_verdict;
 use ido_outside::Gate;
 use image_checks::error::ImageError;
 use image_runs::laws::shapes_run_on;
-use log_schemes::log::Log;
 use machine_model::object::Object;
 use run_tracker::life::Life;
 use std::alloc::Global;
@@ -55,9 +55,9 @@ struct Older<'a> {
 /// Compiles a source for the newest log, and tells only whether it is accepted.
 fn accept_anew(alloc: Global, source: &[u8]) -> Result<(), ImageError>
     requires { length source.now ≤ MOST_SOURCE_BYTES }
-    ensures { MatchResult result (λ _. (again : Compiled) × IsCompiledAs V2 source.now again) (λ error. IsAnewFault source.now error) }
+    ensures { MatchResult result (λ _. (again : Compiled) × IsCompiledAs command_log source.now again) (λ error. IsAnewFault source.now error) }
 {
-    compiled_source(alloc, Log::V2, source)?;
+    compiled_source(alloc, COMMAND_LOG, source)?;
     Ok(())
 }
 
@@ -115,7 +115,7 @@ fn renewed(alloc: Global, source: &[u8], object: &Object, life: &Life) -> Result
     let (variables, _) = words.split_at(object.initial.len() / 8);
     let logs = zeros(alloc, LOG_WORDS * life.harts() as usize)?;
     let schedules = only(alloc, life.kept())?;
-    let output = write_image(alloc, Log::V2, source, variables, &logs, &schedules)?;
+    let output = write_image(alloc, COMMAND_LOG, source, variables, &logs, &schedules)?;
     Ok(Said { status: 0, output })
 }
 

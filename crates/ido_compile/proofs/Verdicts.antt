@@ -26,7 +26,6 @@ use Rattle.flow_graph.specs.Liveness.{NodeAt, HasRoom, IsFirstCrowded}
 use Rattle.flow_graph.specs.Lowering.{lowered}
 use Rattle.flow_graph.specs.Nodes.{Node, Graph}
 use Rattle.log_schemes.specs.declared.log.Log.{Log}
-use Rattle.log_schemes.specs.declared.log.Log.TheVariants.{V1, V2}
 use Rattle.thread_code.specs.Plans.{language_of}
 use Rattle.ido_compile.specs.LoggedTexts as logged
 use Rattle.ido_compile.specs.Verdicts as laws
@@ -258,19 +257,19 @@ module _ (one_tree : reader.OneTree) (one_refusal : reader.OneRefusal) (not_both
   one_by_reading lang text v w (tree xs spelled by) (tree ys also as_well) =
       one_by_types lang ys v w (subst (λ zs. ByTypes lang zs v) (one_tree lang text xs ys spelled also) by) as_well
 
-  -- where it has no faults it is read in one way for all logs
-  one_items : (log other : Log) (text : List ℕ) (xs ys : List Item) → IsRead (language_of log) text xs → IsRead (language_of other) text ys →
-      type_faults (language_of log) xs ≡ [] → type_faults (language_of other) ys ≡ [] → xs ≡ ys
-  one_items V1 V1 text xs ys read also faultless sound = one_tree Plain text xs ys read also
-  one_items V1 V2 text xs ys read also faultless sound = one_tree Full text xs ys (plain_is_full text xs ys read faultless also) also
-  one_items V2 V1 text xs ys read also faultless sound = one_tree Full text xs ys read (plain_is_full text ys xs also sound read)
-  one_items V2 V2 text xs ys read also faultless sound = one_tree Full text xs ys read also
+  -- where it has no faults it is read in one way in all languages
+  one_items : (lang other : Language) (text : List ℕ) (xs ys : List Item) → IsRead lang text xs → IsRead other text ys →
+      type_faults lang xs ≡ [] → type_faults other ys ≡ [] → xs ≡ ys
+  one_items Plain Plain text xs ys read also faultless sound = one_tree Plain text xs ys read also
+  one_items Plain Full text xs ys read also faultless sound = one_tree Full text xs ys (plain_is_full text xs ys read faultless also) also
+  one_items Full Plain text xs ys read also faultless sound = one_tree Full text xs ys read (plain_is_full text ys xs also sound read)
+  one_items Full Full text xs ys read also faultless sound = one_tree Full text xs ys read also
 
   pub one_flat : laws.OneFlat
   one_flat log other text x y is also =
       let a = is.form.ranged.typed in
       let b = also.form.ranged.typed in
-      let same : a.items ≡ b.items = one_items log other text a.items b.items a.read b.read a.faultless b.faultless in
+      let same : a.items ≡ b.items = one_items (language_of log) (language_of other) text a.items b.items a.read b.read a.faultless b.faultless in
       is.form.flattened ∙ ap flat_form (a.typed ∙ (ap typed_program same ∙ sym b.typed)) ∙ sym also.form.flattened
 
   pub one_fault : laws.OneFault

@@ -19,7 +19,8 @@ use Rattle.rv64_isa.specs.declared.object.Slot.{Slot}
 use Rattle.machine_model.specs.declared.phase.Phase.{Phase}
 use Rattle.machine_model.specs.declared.phase.Phase.TheVariants.{Run, Done}
 use Rattle.machine_model.specs.Machine.{Hart as HartModel, World, Outcome, happens, hart_step, run_step, stepped, phase_step}
-use Rattle.machine_model.specs.Machine.{done_if_over, over_after, with_hart, phase_after_crash, durable_point, numbers_from, after_crash_of}
+use Rattle.machine_model.specs.Machine.{done_if_over, over_after, with_hart, phase_after_crash, durable_point, after_crash_of}
+use Rattle.log_schemes.specs.Schemes.{numbers_from}
 use Rattle.hart_core.specs.declared.hart.Hart.{Hart}
 use Rattle.hart_core.specs.links.Harts.{RepresentsHart}
 use Rattle.hart_core.specs.StepsOnParts.{Parts, PartsStand, PartsEnd}

@@ -9,7 +9,8 @@ use Rattle.line_memory.specs.links.MemoryRepresentation.{Represents, log_in}
 use Rattle.rv64_isa.specs.declared.object.Slot.{Slot}
 use Rattle.machine_model.specs.declared.phase.Phase.{Phase}
 use Rattle.machine_model.specs.declared.phase.Phase.TheVariants.{Run}
-use Rattle.machine_model.specs.Machine.{Hart as HartModel, start_of, after_crash_of, fresh_hart, phase_after_crash, durable_point, numbers_from}
+use Rattle.machine_model.specs.Machine.{Hart as HartModel, start_of, after_crash_of, fresh_hart, phase_after_crash, durable_point}
+use Rattle.log_schemes.specs.Schemes.{numbers_from}
 use Rattle.hart_core.specs.declared.hart.Hart.{Hart}
 use Rattle.hart_core.specs.links.Harts.{RepresentsHart}
 use Rattle.ido_machine.specs.Harts.{HartsStand, IsFresh, AreFresh}

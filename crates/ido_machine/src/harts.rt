@@ -2,7 +2,8 @@
 ghost use Rattle.std.specs.Prelude.{◌≡◌, ℕ, List, length, map, IfOk};
 ghost use Rattle.ido_base.specs.Words.{Word};
 ghost use Rattle.line_memory.specs.links.MemoryRepresentation.{Represents, log_in, threads_of};
-ghost use Rattle.machine_model.specs.Machine.{phase_after_crash, durable_point, numbers_from};
+ghost use Rattle.machine_model.specs.Machine.{phase_after_crash, durable_point};
+ghost use Rattle.log_schemes.specs.Schemes.{numbers_from};
 ghost use Rattle.ido_machine.specs.Harts.{AreAnew, AreFresh};
 
 use hart_core::hart::Hart;

@@ -14,6 +14,7 @@ use Rattle.flow_graph.specs.HeldKeys.{names_in}
 use Rattle.flat_compile.specs.declared.resumes.LiveLocal.{LiveLocal}
 use Rattle.flat_compile.specs.declared.resumes.Resume.{Resume}
 use Rattle.image_checks.specs.declared.error.ImageError.{ImageError}
+use Rattle.log_schemes.specs.Schemes.{keeping_of}
 use Rattle.image_checks.specs.Checks.{AreLocksFirst, HasLocal, HasLocks, IsBankFault, IsElementOf}
 use Rattle.image_checks.specs.Checks.{IsFirstWrong, IsLocalWord, IsReferenceWord, IsRight, IsRightBeside}
 use Rattle.image_checks.specs.Checks.{other_number, other_address, other_value}
@@ -58,7 +59,7 @@ module _ (flat : Flat) (logs : Logs) (thread bank : ℕ) (live : List LiveLocal)
 -- ---- Faults but for those of locks
 
 -- where its locks are right, or are looked at later
-pub beside : (flat : Flat) (logs : Logs) (thread bank : ℕ) (r : Resume) (x : ImageError) → (AreLocksFirst logs.log → HasLocks flat logs thread bank r) →
+pub beside : (flat : Flat) (logs : Logs) (thread bank : ℕ) (r : Resume) (x : ImageError) → (AreLocksFirst (keeping_of logs.log) → HasLocks flat logs thread bank r) →
     IsFaultBeside flat logs thread bank r x → IsBankFault flat logs thread bank r x
 beside flat logs thread bank r x locks (number register f) = other_number register locks f
 beside flat logs thread bank r x locks (address locals wrong) = other_address locks locals wrong

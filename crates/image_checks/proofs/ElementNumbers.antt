@@ -23,7 +23,7 @@ use Rattle.c_tree.specs.WellFormed.{elements_in}
 use Rattle.c_ranges.specs.Laws.{IsNullOrReference}
 use Rattle.c_ranges.specs.RunInvariants.{RefersSo}
 use Rattle.memory_layout.specs.Variables.{AreAddresses, HaveRoom}
-use Rattle.machine_model.specs.Machine.{numbers_from}
+use Rattle.log_schemes.specs.Schemes.{numbers_from}
 use Rattle.variable_words.specs.Variables.{durable_variables, number_of_byte, variables_from}
 use Rattle.variable_words.proofs.Public.{shapes, address_is, length-shapes, length-variables, number_is, variable_at_index, within_end}
 use Rattle.image_checks.specs.declared.error.ImageError.TheVariants as e

@@ -20,8 +20,8 @@ use Rattle.c_tree.specs.Values.{value, element_at, element_number, lock_number, 
 use Rattle.c_tree.specs.WellFormed.{IsFlatLockName, IsFlatStatement, AreFlatArms, AreFlatStatements}
 use Rattle.c_ranges.proofs.Public.{lock_below}
 use Rattle.flow_graph.proofs.Public.{all_at}
-use Rattle.log_states.proofs.Public.{contains_first, scheme}
-use Rattle.log_states.specs.Logs.{AreLoggable}
+use Rattle.log_states.proofs.Public.{contains_first, locks_kept}
+use Rattle.log_schemes.specs.SchemeFacts.{AreLoggable}
 use Rattle.recovered_threads.proofs.Public.{has_there}
 use Rattle.source_machine.specs.Discipline.{IsOfName}
 use Rattle.thread_code.specs.Plans.{Plan, Thread, IsPlan, IsThread, IsNodeOf, locks_before, set_before}
@@ -282,7 +282,7 @@ module _ (p : Plan) (plan : IsPlan p) (t : Thread) (of : IsThread p t) where
 
   -- a log can hold them
   pub loggable : (ls : List ℤ) → AllZip Holds t.kinds ls → (node : ℕ) → AreLoggable p.log (locks_before p t ls node)
-  loggable ls held node = (scheme p.log).keeps.room (locks_before p t ls node) (plan.room t ls node) fit
+  loggable ls held node = (locks_kept p.log).room (locks_before p t ls node) (plan.room t ls node) fit
     where
       fit : (lock : ℕ) → Contains (locks_before p t ls node) lock → lock < 2 ^ 64
       fit lock c =

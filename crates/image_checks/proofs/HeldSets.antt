@@ -15,7 +15,7 @@ use Rattle.flow_graph.specs.Nodes.{Graph}
 use Rattle.flow_graph.specs.Lowering.{parts}
 use Rattle.flow_graph.proofs.Public.{found_in, lowered_threads}
 use Rattle.lock_discipline.proofs.Public.{held_length}
-use Rattle.boundary_code.specs.Boundaries.{AreOfMask}
+use Rattle.log_schemes.specs.Schemes.{AreOfMask}
 use Rattle.rv64_codegen.proofs.Public.{set_long}
 use Rattle.thread_code.specs.Plans.{Plan, Thread, IsThread, IsPlan, IsNodeOf, locks_before, locks_held, locks_held_from, set_before}
 use Rattle.thread_code.proofs.Public.{held_fits, held_read_back, names_are, plain_before}

@@ -5,7 +5,10 @@ use Rattle.std.specs.Global.{Global}
 use Rattle.std.proofs.Math.Seq.{take-append_seam, drop-append_seam}
 use Rattle.std.proofs.lemmas.List.{length-map, length-take-le}
 use Rattle.log_schemes.specs.Layout.{log_words, word_count}
-use Rattle.log_schemes.specs.declared.log.Log.TheVariants.{V1, V2}
+use Rattle.ido_base.specs.Layout.{variable_lines}
+use Rattle.log_schemes.specs.Schemes.{lines_of, size_of}
+use Rattle.log_schemes.specs.declared.size.LogSize.{LogSize}
+use Rattle.log_schemes.specs.declared.size.LogSize.TheVariants.{Lines16, Lines32}
 use Rattle.log_schemes.specs.declared.log.Log.{Log}
 use Rattle.machine_events.specs.declared.event.Event.{Event}
 use Rattle.ido_base.specs.declared.limits.TheConstants.{MOST_STEPS}
@@ -48,9 +51,12 @@ pub record IsWhole (log : Log) (flat : f.Flat) (threads size : ℕ) (x : State) 
   pub unshared : (lock : ℕ) → IsUnshared (logs_of log x.logs) threads lock
   pub schedules : AreSchedules flat (start flat) 0 x.lives
 
+total_as : (size : LogSize) (threads : ℕ) → 8 * (variable_lines + lines_of size * threads) ≡ 8192 + 8 * lines_of size * threads
+total_as Lines16 threads = omega arith
+total_as Lines32 threads = omega arith
+
 word_total : (log : Log) (threads : ℕ) → word_count log threads ≡ 8192 + log_words log * threads
-word_total V1 threads = omega arith
-word_total V2 threads = omega arith
+word_total log threads = total_as (size_of log) threads
 
 module _ (machines : MachinesResume) (records : MachinesRecord) (y : System) (s : IsSystem y) (events : List Event)
     (few : variable_words (translation_of y) ≤ 8192) (log : Log) (first : y.plan.log ≡ log) where

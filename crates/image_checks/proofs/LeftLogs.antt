@@ -6,12 +6,12 @@ use Rattle.std.specs.Prelude.{◌==◌, ◌↔◌, ◌&&◌, All, Contains, find
 use Rattle.std.specs.Global.{Global}
 use Rattle.std.proofs.lemmas.Bool.{and_parts, cases_Bool, cases_lt, cond-true, cond-false, eqb-true, eqb-false, ne_eqb, le-ltb}
 use Rattle.std.proofs.lemmas.List.{get_or-map, get_or_past, length-map}
-use Rattle.std.proofs.lemmas.List.Elements.{Contains-append_right, Contains-get_or}
+use Rattle.std.proofs.lemmas.List.Elements.{Contains-get_or}
 use Rattle.std.proofs.lemmas.Option.{same_Some, slice_get_within, slice_get-get_or}
 use Rattle.machine_model.specs.Machine.{durable_point}
 use Rattle.machine_model.proofs.Public.{log_stays}
 use Rattle.log_schemes.specs.declared.log.Log.{Log}
-use Rattle.log_schemes.specs.declared.log.Log.TheVariants.{V1}
+use Rattle.log_schemes.specs.declared.keeping.Keeping.TheVariants.{Masked}
 use Rattle.machine_events.specs.declared.event.Event.TheVariants.{Crash}
 use Rattle.ido_base.specs.declared.location.Location.{Location}
 use Rattle.ido_base.specs.Layout.{variables_base, logs_base, word_number, variable_at}
@@ -55,8 +55,10 @@ use Rattle.known_references.proofs.Public.{kept_unnull}
 use Rattle.log_states.specs.LogInvariant.{LogInv}
 use Rattle.log_states.specs.Logs.{Record, IsRecord, IsRecorded, nothing_recorded, slots_of, value_of}
 use Rattle.log_states.specs.Machines.{config_of}
-use Rattle.log_states.proofs.Public.{crashes_standing, durable_is, ends, scheme}
-use Rattle.boundary_code.specs.Boundaries.{kept_locks, slots_kept}
+use Rattle.log_states.proofs.Public.{crashes_standing, durable_is, ends, lock_value, register_value}
+use Rattle.boundary_code.specs.Boundaries.{slots_kept}
+use Rattle.log_schemes.specs.Schemes.{keeping_of, kept_locks, register_slot}
+use Rattle.log_schemes.specs.SchemeFacts.{HasEach}
 use Rattle.hart_runs.proofs.Public.{crashes_step}
 use Rattle.thread_code.specs.Plans.{Plan, Thread, IsNodeOf, locks_held, names_in, set_before, of_address, of_local, of_value}
 use Rattle.thread_code.specs.RegistersAtNodes.{HasPending, IsPendingIn}
@@ -82,7 +84,8 @@ use Rattle.image_checks.proofs.HeldNumbers.{live_same, locks_same}
 use Rattle.image_checks.proofs.HeldOnce.{held_once}
 use Rattle.image_checks.proofs.HeldSets.{held_are_plain, named_held}
 use Rattle.image_checks.proofs.LeftLocals.{found_some, home_in, named_same, reference_word, unnull_word}
-use Rattle.image_checks.proofs.LoggedWords.{HasEach, keeps_locks, kept_are_locks, lock_slot_kept, point_is, slot_there}
+use Rattle.image_checks.proofs.LoggedWords.{keeps_locks, kept_are_locks, lock_slot_kept, point_is, register_slot_kept, slot_there}
+use Rattle.log_schemes.proofs.Public.{register_is}
 use Rattle.image_checks.proofs.ReferenceWords.{IsLong, variable_long, word_by_bytes}
 use Rattle.image_checks.proofs.StoredElements.{StoresAs, StoresElements, stores_elements}
 use Rattle.image_checks.proofs.Tables.{kinds_are}
@@ -193,12 +196,13 @@ module _ (y : System) (s : IsSystem y) (w : World) (stands : Simulates y s w) (l
     locks_kept : r.point ≢ 0 → HasEach (λ slot. slot_in logs n (bank_of r.point) slot) (kept_locks log r.locks)
     locks_kept some one c =
         value_there one.0 some (lock_slot_kept log r.locks r.live one c)
-        ∙ ((scheme log).keeps.locks r.locks one is_record.locks c).alone (read r.registers one.0)
+        ∙ lock_value log r is_record.locks is_record.live one c
 
     register_there : (register : ℕ) → r.point ≢ 0 → Contains r.live register → slot_in logs n (bank_of r.point) register ≡ read r.registers register
     register_there register some c =
-        value_there register some (Contains-append_right (map (λ (kept : ℕ × ℕ). kept.0) (kept_locks log r.locks)) r.live register c)
-        ∙ ((scheme log).keeps.registers register (is_record.live register c)).alone r.locks (read r.registers register)
+        ap (λ (slot : ℕ). slot_in logs n (bank_of r.point) slot) (register_is log register)
+        ∙ (value_there (register_slot log register) some (register_slot_kept log r.locks r.live register c)
+        ∙ register_value log r is_record.locks is_record.live register c)
 
     -- its locks are those of its record
     locks_logged : log_locks logs n ≡ locks_of r
@@ -396,9 +400,9 @@ module _ (y : System) (s : IsSystem y) (w : World) (stands : Simulates y s w) (l
         log_is : y.plan.log ≡ log
         log_is = stands.machine.log ∙ first
 
-        plain_held : log ≡ V1 → entry.held.items ≡ r.locks
+        plain_held : keeping_of log ≡ Masked → entry.held.items ≡ r.locks
         plain_held masks =
-            held_is ∙ (held_are_plain y.plan s.plan t code.of (s.plan.plain (log_is ∙ masks)) locals at i.own ∙ sym i.locks)
+            held_is ∙ (held_are_plain y.plan s.plan t code.of (s.plan.plain (ap keeping_of log_is ∙ masks)) locals at i.own ∙ sym i.locks)
 
         once : AreOnce r.locks
         once = subst AreOnce (sym i.locks) (held_once y.plan kept s.plan (orderly y s stands.abstract) t code.of i.graph_thread i.there i.own)

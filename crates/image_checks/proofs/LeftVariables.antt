@@ -14,7 +14,8 @@ use Rattle.c_tree.specs.References.{variable_refers}
 use Rattle.c_tree.specs.Values.{element_number}
 use Rattle.c_tree.specs.WellFormed.{shape_of, elements_in}
 use Rattle.c_ranges.specs.RunInvariants.{RefersSo}
-use Rattle.machine_model.specs.Machine.{World, numbers_from}
+use Rattle.machine_model.specs.Machine.{World}
+use Rattle.log_schemes.specs.Schemes.{numbers_from}
 use Rattle.memory_layout.specs.Variables.{HaveRoom}
 use Rattle.recovery_semantics.specs.ElementHistories.{Memory, durable_number, history_at, history_of}
 use Rattle.recovery_semantics.specs.Elements.{number_in}

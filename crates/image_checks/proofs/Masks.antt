@@ -7,7 +7,8 @@ use Rattle.std.proofs.lemmas.List.{drop_all, length-map}
 use Rattle.std.proofs.lemmas.Option.{get_or_from_slice_get, slice_get-get_or, slice_get_within}
 use Rattle.ido_base.specs.declared.limits.TheConstants.{MOST_LOCKS}
 use Rattle.log_schemes.specs.declared.log.Log.{Log}
-use Rattle.log_schemes.specs.declared.log.Log.TheVariants.{V1, V2}
+use Rattle.log_schemes.specs.declared.keeping.Keeping.{Keeping}
+use Rattle.log_schemes.specs.declared.keeping.Keeping.TheVariants.{Masked, Listed}
 use Rattle.ido_base.specs.Locks.{has_lock, mask_with}
 use Rattle.ido_base.proofs.Public.{none_high}
 use Rattle.c_tree.specs.Exprs.{LockName}
@@ -15,10 +16,11 @@ use Rattle.c_tree.specs.Flats.{Flat}
 use Rattle.c_tree.specs.Values.{lock_number}
 use Rattle.c_tree.specs.WellFormed.{IsWellFormed}
 use Rattle.log_schemes.specs.declared.point.Point.{Point}
-use Rattle.machine_model.specs.Machine.{numbers_from}
+use Rattle.log_schemes.specs.Schemes as room
+use Rattle.log_schemes.specs.Schemes.{keeping_of, lock_slot, numbers_from, read_as}
 use Rattle.flat_compile.specs.declared.resumes.Resume.{Resume}
 use Rattle.image_checks.specs.Checks.{IsResumableLog, idle, kinds_of_thread, names_of_thread, resumed}
-use Rattle.image_checks.specs.Logs.{AreFrom, AreOnce, HoldsLock, KeepsLocks, Lists, Logs, locals_by, locks_at_point, locks_by, names_at, slot_in, slot_locks}
+use Rattle.image_checks.specs.Logs.{AreFrom, AreOnce, HoldsLock, KeepsAs, Lists, Logs, locals_by, locks_at_point, locks_by, names_at, slot_in}
 use Rattle.image_checks.specs.ResumeSlots.{AllHaveKinds, AllHaveRoom, HasRoom, HaveKinds}
 use Rattle.image_checks.proofs.BankLocals.{few_named, locks_low}
 use Rattle.image_checks.proofs.Points.{found_has}
@@ -41,47 +43,45 @@ module _ (f : ℕ → ℕ) where
   in_slots at [] are = refl
   in_slots at (lock ∷ locks) are = λ i. are.0 i ∷ in_slots (at + 1) locks are.1 i
 
-  pub listed : (locks : List ℕ) → length locks ≤ 16 → Lists f locks → slot_locks V2 f ≡ locks
-  listed locks few lists =
-      ap (λ (n : ℕ). take n (map f (numbers_from 32 16))) lists.0 ∙ taken_few 32 16 (length locks) few ∙ in_slots 32 locks lists.1
+pub listed : (log : Log) (slot : ℕ → ℕ) (locks : List ℕ) → length locks ≤ 16 → Lists log slot locks → read_as Listed log slot ≡ locks
+listed log slot locks few lists =
+    let f : ℕ → ℕ = λ index. slot (lock_slot log index) in
+    ap (λ (n : ℕ). take n (map f (numbers_from 0 16))) lists.0 ∙ taken_few f 0 16 (length locks) few ∙ in_slots f 0 locks lists.1
 
--- ---- A list, slot by slot
+-- ---- A list, index by index
 
 module _ (f : ℕ → ℕ) where
   -- as many as are said, 16 at most
-  pub taken : (said count : ℕ) → count ≡ min said 16 → take said (map f (numbers_from 32 16)) ≡ map f (numbers_from 32 count)
+  pub taken : (said count : ℕ) → count ≡ min said 16 → take said (map f (numbers_from 0 16)) ≡ map f (numbers_from 0 count)
   taken said count is = elim (cases_lt said 16) [
     | inl less ↦
         let same : said ≡ count = omega (arith, is, less) in
-        taken_few f 32 16 said (omega (arith, less)) ∙ ap (λ (n : ℕ). map f (numbers_from 32 n)) same
+        taken_few f 0 16 said (omega (arith, less)) ∙ ap (λ (n : ℕ). map f (numbers_from 0 n)) same
     | inr more ↦
         let same : 16 ≡ count = omega (arith, is, more) in
-        taken_all f 32 16 said (omega (arith, more)) ∙ ap (λ (n : ℕ). map f (numbers_from 32 n)) same
+        taken_all f 0 16 said (omega (arith, more)) ∙ ap (λ (n : ℕ). map f (numbers_from 0 n)) same
   ]
 
   left_is : (count index : ℕ) → index < count →
-      map f (numbers_from (32 + index) (count - index)) ≡ f (32 + index) ∷ map f (numbers_from (32 + (index + 1)) (count - (index + 1)))
+      map f (numbers_from index (count - index)) ≡ f index ∷ map f (numbers_from (index + 1) (count - (index + 1)))
   left_is count index below =
-      let more : count - index ≡ suc (count - (index + 1)) = omega (arith, below) in
-      let next : 32 + index + 1 ≡ 32 + (index + 1) = omega arith in
-      ap (λ (n : ℕ). map f (numbers_from (32 + index) n)) more
-      ∙ ap (λ (n : ℕ). f (32 + index) ∷ map f (numbers_from n (count - (index + 1)))) next
+      let more : count - index ≡ suc (count - (index + 1)) = omega (arith, below) in ap (λ (n : ℕ). map f (numbers_from index n)) more
 
-  pub found_next : (count index lock : ℕ) → index < count → (f (32 + index) == lock) ≡ true →
-      has_lock (map f (numbers_from (32 + index) (count - index))) lock ≡ true
+  pub found_next : (count index lock : ℕ) → index < count → (f index == lock) ≡ true →
+      has_lock (map f (numbers_from index (count - index))) lock ≡ true
   found_next count index lock below is =
       ap (λ (ls : List ℕ). has_lock ls lock) (left_is count index below)
-      ∙ ap (λ (b : Bool). b || has_lock (map f (numbers_from (32 + (index + 1)) (count - (index + 1)))) lock) is
+      ∙ ap (λ (b : Bool). b || has_lock (map f (numbers_from (index + 1) (count - (index + 1)))) lock) is
 
-  pub not_next : (count index lock : ℕ) → index < count → (f (32 + index) == lock) ≡ false →
-      has_lock (map f (numbers_from (32 + index) (count - index))) lock ≡ has_lock (map f (numbers_from (32 + (index + 1)) (count - (index + 1)))) lock
+  pub not_next : (count index lock : ℕ) → index < count → (f index == lock) ≡ false →
+      has_lock (map f (numbers_from index (count - index))) lock ≡ has_lock (map f (numbers_from (index + 1) (count - (index + 1)))) lock
   not_next count index lock below is =
       ap (λ (ls : List ℕ). has_lock ls lock) (left_is count index below)
-      ∙ ap (λ (b : Bool). b || has_lock (map f (numbers_from (32 + (index + 1)) (count - (index + 1)))) lock) is
+      ∙ ap (λ (b : Bool). b || has_lock (map f (numbers_from (index + 1) (count - (index + 1)))) lock) is
 
-  pub none_left : (count index lock : ℕ) → count ≤ index → has_lock (map f (numbers_from (32 + index) (count - index))) lock ≡ false
+  pub none_left : (count index lock : ℕ) → count ≤ index → has_lock (map f (numbers_from index (count - index))) lock ≡ false
   none_left count index lock past =
-      let none : count - index ≡ 0 = omega (arith, past) in ap (λ (n : ℕ). has_lock (map f (numbers_from (32 + index) n)) lock) none
+      let none : count - index ≡ 0 = omega (arith, past) in ap (λ (n : ℕ). has_lock (map f (numbers_from index n)) lock) none
 
 -- ---- A list in its slots
 
@@ -92,35 +92,26 @@ split_at locks i below =
 
 module _ (f : ℕ → ℕ) (locks : List ℕ) where
   abbrev pub AreLeft : (i : ℕ) → Type 0
-  AreLeft i = AreFrom f (32 + i) (drop i locks)
+  AreLeft i = AreFrom f i (drop i locks)
 
-  here_and_next : (i : ℕ) → i < length locks → AreLeft i → (f (32 + i) ≡ slice_index locks i) × AreLeft (i + 1)
-  here_and_next i below are =
-      let next : 32 + i + 1 ≡ 32 + (i + 1) = omega arith in
-      let both : AreFrom f (32 + i) (slice_index locks i ∷ drop (i + 1) locks) = subst (AreFrom f (32 + i)) (split_at locks i below) are in
-      (both.0, subst (λ (n : ℕ). AreFrom f n (drop (i + 1) locks)) next both.1)
+  here_and_next : (i : ℕ) → i < length locks → AreLeft i → (f i ≡ slice_index locks i) × AreLeft (i + 1)
+  here_and_next i below are = subst (AreFrom f i) (split_at locks i below) are
 
-  from_next : (i : ℕ) → i < length locks → f (32 + i) ≡ slice_index locks i → AreLeft (i + 1) → AreLeft i
-  from_next i below here are =
-      let next : 32 + (i + 1) ≡ 32 + i + 1 = omega arith in
-      subst (AreFrom f (32 + i)) (sym (split_at locks i below)) (here, subst (λ (n : ℕ). AreFrom f n (drop (i + 1) locks)) next are)
+  from_next : (i : ℕ) → i < length locks → f i ≡ slice_index locks i → AreLeft (i + 1) → AreLeft i
+  from_next i below here are = subst (AreFrom f i) (sym (split_at locks i below)) (here, are)
 
-  pub one_listed : (i : ℕ) → i < length locks → f (32 + i) ≡ slice_index locks i → (AreLeft i ↔ AreFrom f 32 locks) →
-      (AreLeft (i + 1) ↔ AreFrom f 32 locks)
+  pub one_listed : (i : ℕ) → i < length locks → f i ≡ slice_index locks i → (AreLeft i ↔ AreFrom f 0 locks) → (AreLeft (i + 1) ↔ AreFrom f 0 locks)
   one_listed i below here so_far = (
     λ are. so_far.0 (from_next i below here are),
     λ all. (here_and_next i below (so_far.1 all)).1,
   )
 
   -- another one stands there
-  pub not_listed : (i : ℕ) → i < length locks → ¬ (f (32 + i) ≡ slice_index locks i) → (AreLeft i ↔ AreFrom f 32 locks) → ¬ (Lists f locks)
-  not_listed i below wrong so_far lists = wrong (here_and_next i below (so_far.1 lists.1)).0
+  pub not_listed : (i : ℕ) → i < length locks → ¬ (f i ≡ slice_index locks i) → (AreLeft i ↔ AreFrom f 0 locks) → ¬ (AreFrom f 0 locks)
+  not_listed i below wrong so_far all = wrong (here_and_next i below (so_far.1 all)).0
 
-  pub all_listed : (i : ℕ) → length locks ≤ i → (AreLeft i ↔ AreFrom f 32 locks) → ((f 0 ≡ length locks) ↔ Lists f locks)
-  all_listed i past so_far = (
-    λ count. (count, so_far.0 (subst (AreFrom f (32 + i)) (sym (drop_all i locks past)) tt)),
-    λ lists. lists.0,
-  )
+  pub all_listed : (i : ℕ) → length locks ≤ i → (AreLeft i ↔ AreFrom f 0 locks) → AreFrom f 0 locks
+  all_listed i past so_far = so_far.0 (subst (AreFrom f i) (sym (drop_all i locks past)) tt)
 
 -- ---- None stands in a list twice
 
@@ -193,24 +184,24 @@ module _ (numbers : List ℕ) where
 -- ---- The locks that a bank has
 
 -- by a list they are those of its names
-pub kept_listed : (slot : ℕ → ℕ) (names : List LockName) (count : ℕ) (r : Resume) → HasRoom V2 r → KeepsLocks V2 slot names count r →
-    slot_locks V2 slot ≡ locks_by slot names count r
-kept_listed slot names count r room keeps =
+pub kept_listed : (log : Log) (slot : ℕ → ℕ) (names : List LockName) (count : ℕ) (r : Resume) → room.HasRoom Listed r.held.items →
+    KeepsAs Listed log slot names count r → read_as Listed log slot ≡ locks_by slot names count r
+kept_listed log slot names count r few keeps =
     let locks : List ℕ = locks_by slot names count r in
-    let few : length locks ≤ 16 =
-    omega (arith, room, length-map (names_at names r.held.items) (lock_number (locals_by slot r.live.items count)), few_named names r.held.items) in
-    listed slot locks few keeps.0
+    let short : length locks ≤ 16 =
+    omega (arith, few, length-map (names_at names r.held.items) (lock_number (locals_by slot r.live.items count)), few_named names r.held.items) in
+    listed log slot locks short keeps.0
 
 module _ (flat : Flat) (formed : IsWellFormed flat) (thread : ℕ) (slot : ℕ → ℕ) (r : Resume) (have : HaveKinds (kinds_of_thread flat thread) r.live.items) where
-  low_by : (log : Log) (lock : ℕ) → HasRoom log r → KeepsLocks log slot (names_of_thread flat thread) (length (kinds_of_thread flat thread)) r →
-      has_lock (slot_locks log slot) lock ≡ true → lock < MOST_LOCKS
-  low_by V1 lock room keeps has = elim (cases_lt lock 64) [
+  low_by : (k : Keeping) (log : Log) (lock : ℕ) → room.HasRoom k r.held.items →
+      KeepsAs k log slot (names_of_thread flat thread) (length (kinds_of_thread flat thread)) r → has_lock (read_as k log slot) lock ≡ true → lock < MOST_LOCKS
+  low_by Masked log lock room keeps has = elim (cases_lt lock 64) [
     | inl low ↦ omega (arith, low)
     | inr high ↦ absurd (true≢false (sym has ∙ none_high (slot 0) lock high))
   ]
-  low_by V2 lock room keeps has =
+  low_by Listed log lock room keeps has =
       let among = subst (λ (locks : List ℕ). has_lock locks lock ≡ true)
-      (kept_listed slot (names_of_thread flat thread) (length (kinds_of_thread flat thread)) r room keeps) has in
+      (kept_listed log slot (names_of_thread flat thread) (length (kinds_of_thread flat thread)) r room keeps) has in
       let there : lock < length flat.mutexes = locks_low flat formed thread slot r.live.items have r.held.items lock among in
       let few : length flat.mutexes ≤ MOST_LOCKS = formed.shared.mutexes in
       omega (arith, there, few)
@@ -222,6 +213,6 @@ held_low flat formed resumes logs thread lock room kinds (idle point) has =
     absurd (true≢false (sym has ∙ ap (λ (p : Point). has_lock (locks_at_point logs thread p) lock) point))
 held_low flat formed resumes logs thread lock room kinds (resumed address bank r point found right) has =
     low_by flat formed thread (λ slot. slot_in logs thread bank slot) r
-    (found_has (λ (z : Resume). HaveKinds (kinds_of_thread flat thread) z.live.items) resumes address r kinds found) logs.log lock
+    (found_has (λ (z : Resume). HaveKinds (kinds_of_thread flat thread) z.live.items) resumes address r kinds found) (keeping_of logs.log) logs.log lock
     (found_has (HasRoom logs.log) resumes address r room found) right.locks
     (sym (ap (λ (p : Point). has_lock (locks_at_point logs thread p) lock) point) ∙ has)

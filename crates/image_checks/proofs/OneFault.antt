@@ -14,6 +14,7 @@ use Rattle.image_checks.specs.declared.error.ImageError.TheVariants as e
 use Rattle.flat_compile.specs.ResumePlaces.{resumes_at}
 use Rattle.c_tree.specs.Source.{start}
 use Rattle.image_checks.specs.Logs.{Logs, logs_of, point_in}
+use Rattle.log_schemes.specs.Schemes.{keeping_of}
 use Rattle.image_checks.specs.Checks.{AreLocksFirst, HasLocal, HasLocals, HasLocks, IsFirstWrong, IsRight, IsRightBeside, IsBankFault}
 use Rattle.image_checks.specs.Checks.{other_locks, other_number, other_address, other_value}
 use Rattle.image_checks.specs.Checks.{resume_at, IsResumableLog, idle, resumed, IsLogFault, nowhere, of_bank, AreSound, IsThreadFault}
@@ -62,10 +63,10 @@ module _ (flat : Flat) (logs : Logs) (thread bank : ℕ) (r : Resume) where
   right_bank x h (other_value locks locals address wrong) = wrong h.value
 
   abbrev Before : Type 0
-  Before = AreLocksFirst logs.log ⊎ IsRightBeside flat logs thread bank r
+  Before = AreLocksFirst (keeping_of logs.log) ⊎ IsRightBeside flat logs thread bank r
 
   abbrev LocksFirst : Type 0
-  LocksFirst = AreLocksFirst logs.log → HasLocks flat logs thread bank r
+  LocksFirst = AreLocksFirst (keeping_of logs.log) → HasLocks flat logs thread bank r
 
   -- nothing else is wrong where locks are looked at, and no locks are where it is
   all_right : Before → ¬ (HasLocks flat logs thread bank r) → LocksFirst → IsRightBeside flat logs thread bank r

@@ -13,7 +13,9 @@ use Rattle.flat_compile.specs.ResumePlaces.{resumes_at}
 use Rattle.image_checks.specs.Logs.{Logs, point_in}
 use Rattle.log_schemes.specs.Layout.{log_words}
 use Rattle.log_schemes.specs.declared.log.Log.{Log}
-use Rattle.log_schemes.specs.declared.log.Log.TheVariants.{V1, V2}
+use Rattle.log_schemes.specs.Schemes.{lines_of, size_of}
+use Rattle.log_schemes.specs.declared.size.LogSize.{LogSize}
+use Rattle.log_schemes.specs.declared.size.LogSize.TheVariants.{Lines16, Lines32}
 use Rattle.image_checks.specs.ResumeSlots.{AllHaveRoom, TablesHaveRoom}
 use Rattle.image_checks.specs.links.Errors.{IsFaultOrMemory}
 use Rattle.image_checks.specs.Checks.{resume_at, IsRight, IsBankFault, IsResumableLog, IsLogFault, resumed, of_bank}
@@ -48,11 +50,14 @@ room_at log (rs ∷ table) zero within all = all 0 rs (omega arith)
 room_at log (rs ∷ table) (suc thread) within all = room_at log table thread (omega (arith, within)) (λ k d below. all (suc k) d (omega (arith, below)))
 room_at log [] thread within all = absurd (omega (arith, within))
 
--- the log of a thread lies among those of all
-pub log_within : (log : Log) (thread threads words : ℕ) → thread < threads → log_words log * threads ≤ words → log_words log * (thread + 1) ≤ words
-log_within V1 thread threads words below fits =
+within_as : (size : LogSize) (thread threads words : ℕ) → thread < threads → 8 * lines_of size * threads ≤ words → 8 * lines_of size * (thread + 1) ≤ words
+within_as Lines16 thread threads words below fits =
     let all : 128 * threads ≤ words = fits in
     let one : 128 * (thread + 1) ≤ words = omega (arith, below, all) in one
-log_within V2 thread threads words below fits =
+within_as Lines32 thread threads words below fits =
     let all : 256 * threads ≤ words = fits in
     let one : 256 * (thread + 1) ≤ words = omega (arith, below, all) in one
+
+-- the log of a thread lies among those of all
+pub log_within : (log : Log) (thread threads words : ℕ) → thread < threads → log_words log * threads ≤ words → log_words log * (thread + 1) ≤ words
+log_within log thread threads words below fits = within_as (size_of log) thread threads words below fits

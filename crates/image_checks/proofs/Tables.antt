@@ -9,10 +9,12 @@ use Rattle.std.proofs.lemmas.List.Elements.{Contains-get_or}
 use Rattle.std.proofs.lemmas.Option.{none-some, same_Some, slice_get-get_or}
 use Rattle.memory_layout.specs.declared.roles.TheConstants.{LOCALS}
 use Rattle.log_schemes.specs.declared.log.Log.{Log}
-use Rattle.log_schemes.specs.declared.log.Log.TheVariants.{V1, V2}
+use Rattle.log_schemes.specs.declared.keeping.Keeping.{Keeping}
+use Rattle.log_schemes.specs.declared.keeping.Keeping.TheVariants.{Masked, Listed}
 use Rattle.ido_ints.specs.declared.kinds.Kind.{Kind}
-use Rattle.boundary_code.specs.Boundaries.{HaveRoom}
-use Rattle.log_schemes.specs.declared.addresses.TheConstants.{MOST_LISTED}
+use Rattle.log_schemes.specs.Schemes as schemes
+use Rattle.log_schemes.specs.Schemes.{HaveRoom, keeping_of}
+use Rattle.log_schemes.specs.declared.log.TheConstants.{MOST_LISTED}
 use Rattle.c_tree.specs.Flats as f
 use Rattle.c_tree.specs.Values.{lock_number}
 use Rattle.thread_code.specs.Plans.{Plan, Thread, IsPlan, IsThread, IsNodeOf, home_of_colour, held_names_before, locks_before, locks_held, names_in, set_before}
@@ -67,7 +69,7 @@ table_slots p codes table is k d within =
 -- ---- Room for locks
 
 module _ (p : Plan) (plan : IsPlan p) (t : Thread) (is : IsThread p t) (node : ℕ) (own : IsNodeOf t node) where
-  few_held : HaveRoom V2 (locks_before p t [] node) → length (locks_held (set_before p t node)) ≤ MOST_LISTED
+  few_held : schemes.HasRoom Listed (locks_before p t [] node) → length (locks_held (set_before p t node)) ≤ MOST_LISTED
   few_held few =
       omega (
         arith,
@@ -76,13 +78,13 @@ module _ (p : Plan) (plan : IsPlan p) (t : Thread) (is : IsThread p t) (node : �
         as_many_held 0 (names_in p t) (set_before p t node) (set_long p plan t is node own),
       )
 
-  set_room : (log : Log) → p.log ≡ log → HaveRoom log (locks_before p t [] node) → HaveRoom log (locks_held (set_before p t node))
-  set_room V1 first room = of_mask p plan t is (plan.plain first) node
-  set_room V2 second room = few_held room
+  set_room : (k : Keeping) → keeping_of p.log ≡ k → schemes.HasRoom k (locks_before p t [] node) → schemes.HasRoom k (locks_held (set_before p t node))
+  set_room Masked masked room = of_mask p plan t is (plan.plain masked) node
+  set_room Listed listed room = few_held room
 
 place_room : (p : Plan) (plan : IsPlan p) → (t : Thread) (r : Resume) → IsThread p t → IsFound p t r → HasRoom p.log r
 place_room p plan t r is found =
-    subst (HaveRoom p.log) (sym found.held_is) (set_room p plan t is r.node found.own p.log refl (plan.room t [] r.node))
+    subst (HaveRoom p.log) (sym found.held_is) (set_room p plan t is r.node found.own (keeping_of p.log) refl (plan.room t [] r.node))
 
 places_room : (p : Plan) (plan : IsPlan p) → (t : Thread) (program : Program) (code : IsThreadCode p t program) (rs : List Resume) → IsThread p t →
     AreResumes p t program code rs → AllHaveRoom p.log rs

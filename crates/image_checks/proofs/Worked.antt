@@ -14,6 +14,7 @@ use Rattle.c_ranges.specs.Laws.{IsNullOrReference}
 use Rattle.variable_words.specs.Variables.{durable_variables}
 use Rattle.flat_compile.specs.declared.resumes.LiveLocal.{LiveLocal}
 use Rattle.image_checks.specs.Checks.{IsReferenceWord, IsUnnull}
+use Rattle.log_schemes.specs.declared.log.Log.TheVariants.{V2}
 use Rattle.image_checks.specs.Logs.{AreOnce, Lists, locals_by, names_at}
 use Rattle.image_checks.specs.VariableReferences.{IsNumberRight, numbers_in}
 
@@ -45,7 +46,7 @@ by_keys : map (lock_number (locals_by slot (index ∷ []) 2)) (names_at names (0
 unfolding from_least_on
 by_keys = refl
 
-as_listed : Lists slot (0 ∷ 3 ∷ [])
+as_listed : Lists V2 slot (0 ∷ 3 ∷ [])
 as_listed = (refl, (refl, (refl, tt)))
 
 -- no more names are there

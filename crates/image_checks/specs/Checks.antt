@@ -5,7 +5,9 @@ use Rattle.std.specs.Global.{Global}
 use Rattle.ido_base.specs.declared.location.Location.{Location}
 use Rattle.ido_base.specs.Layout.{variable_at}
 use Rattle.log_schemes.specs.declared.log.Log.{Log}
-use Rattle.log_schemes.specs.declared.log.Log.TheVariants.{V1, V2}
+use Rattle.log_schemes.specs.declared.keeping.Keeping.{Keeping}
+use Rattle.log_schemes.specs.declared.keeping.Keeping.TheVariants.{Masked, Listed}
+use Rattle.log_schemes.specs.Schemes.{keeping_of}
 use Rattle.ido_ints.specs.declared.kinds.Kind.{Kind}
 use Rattle.ido_ints.specs.Kinds.{Holds}
 use Rattle.ido_ints.specs.Reduction.{register_of}
@@ -75,10 +77,10 @@ kinds_of_thread flat thread = slice_index_or (map (λ (t : Thread). t.locals) fl
 
 -- ---- A bank of the log of a thread that is resumed with it
 
--- with the first log locks are looked at before registers, with the second after them
-abbrev pub AreLocksFirst : Log → Type 0
-AreLocksFirst V1 = Unit {0}
-AreLocksFirst V2 = ⊥
+-- a mask is looked at before registers, a list after them
+abbrev pub AreLocksFirst : Keeping → Type 0
+AreLocksFirst Masked = Unit {0}
+AreLocksFirst Listed = ⊥
 
 module _ (flat : Flat) (logs : Logs) (thread bank : ℕ) where
   abbrev pub bank_slot : (slot : ℕ) → ℕ
@@ -133,11 +135,11 @@ module _ (flat : Flat) (logs : Logs) (thread bank : ℕ) where
 
   -- the first fault of the bank
   pub data IsBankFault (r : Resume) : ImageError → Type 0 where
-    other_locks : (AreLocksFirst logs.log ⊎ IsRightBeside r) → ¬ (HasLocks r) → IsBankFault r (e.Mask thread)
-    other_number : (register : ℕ) → (AreLocksFirst logs.log → HasLocks r) → IsFirstWrong r.live.items register → IsBankFault r (e.Slot thread register)
-    other_address : (AreLocksFirst logs.log → HasLocks r) → HasLocals r.live.items → ¬ (HasAddress r.live.items r.pending) →
+    other_locks : (AreLocksFirst (keeping_of logs.log) ⊎ IsRightBeside r) → ¬ (HasLocks r) → IsBankFault r (e.Mask thread)
+    other_number : (register : ℕ) → (AreLocksFirst (keeping_of logs.log) → HasLocks r) → IsFirstWrong r.live.items register → IsBankFault r (e.Slot thread register)
+    other_address : (AreLocksFirst (keeping_of logs.log) → HasLocks r) → HasLocals r.live.items → ¬ (HasAddress r.live.items r.pending) →
         IsBankFault r (e.Slot thread PENDING_ADDRESS)
-    other_value : (AreLocksFirst logs.log → HasLocks r) → HasLocals r.live.items → HasAddress r.live.items r.pending → ¬ (HasValue r.pending) →
+    other_value : (AreLocksFirst (keeping_of logs.log) → HasLocks r) → HasLocals r.live.items → HasAddress r.live.items r.pending → ¬ (HasValue r.pending) →
         IsBankFault r (e.Slot thread PENDING_VALUE)
 
 -- ---- The log of a thread

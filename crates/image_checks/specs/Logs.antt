@@ -1,23 +1,24 @@
 -- What the words of logs say: of each thread its point, and the slots of a bank.
 use Rattle.std.specs.Option.{option_to_list}
 use Rattle.std.specs.Prelude.{◌≡◌, ◌==◌, ℕ, ◌+◌, ◌-◌, ◌/◌, ℤ, pos, true, Option, Some, None}
-use Rattle.std.specs.Prelude.{List, [], ◌∷◌, length, map, find, flat_map, slice_get, slice_index, take}
+use Rattle.std.specs.Prelude.{List, [], ◌∷◌, length, map, find, flat_map, slice_get, slice_index}
 use Rattle.log_schemes.specs.declared.log.Log.{Log}
-use Rattle.log_schemes.specs.declared.log.Log.TheVariants.{V1, V2}
+use Rattle.log_schemes.specs.declared.keeping.Keeping.{Keeping}
+use Rattle.log_schemes.specs.declared.keeping.Keeping.TheVariants.{Masked, Listed}
 use Rattle.ido_base.specs.Layout.{logs_base}
 use Rattle.log_schemes.specs.Layout.{point_at, slot_at}
-use Rattle.ido_base.specs.Locks.{has_lock, locks_in, mask_with}
+use Rattle.ido_base.specs.Locks.{has_lock, mask_with}
 use Rattle.ido_ints.specs.Reduction.{reduced}
 use Rattle.c_tree.specs.Exprs.{LockName}
 use Rattle.c_tree.specs.LockDiscipline.{numbers_below}
 use Rattle.c_tree.specs.Values.{lock_number}
 use Rattle.flat_compile.specs.declared.resumes.LiveLocal.{LiveLocal}
 use Rattle.flat_compile.specs.declared.resumes.Resume.{Resume}
-use Rattle.log_schemes.specs.declared.addresses.TheConstants.{COUNT_SLOT, FIRST_LOCK_SLOT, MASK_SLOT, MOST_LISTED}
+use Rattle.log_schemes.specs.declared.addresses.TheConstants.{LOCKS_SLOT}
 use Rattle.log_schemes.specs.declared.point.Point.{Point}
 use Rattle.log_schemes.specs.declared.point.Point.TheVariants.{Idle, At}
 use Rattle.log_schemes.specs.Points.{point_of}
-use Rattle.machine_model.specs.Machine.{numbers_from}
+use Rattle.log_schemes.specs.Schemes.{keeping_of, lock_slot, locks_read}
 use Rattle.crash_images.specs.Contents.{word_bytes}
 
 -- the words of all logs, and how they log
@@ -40,19 +41,14 @@ point_in logs thread = point_of (logged logs.words (point_at logs.log thread))
 abbrev pub slot_in : Logs → (thread bank slot : ℕ) → ℕ
 slot_in logs thread bank slot = logged logs.words (slot_at logs.log thread bank slot)
 
--- the locks of a bank with these slots: bit i of a mask is set for lock i; or they are listed, and a slot says how many there are
-abbrev pub slot_locks : Log → (slot : ℕ → ℕ) → List ℕ
-slot_locks V1 slot = locks_in (slot MASK_SLOT)
-slot_locks V2 slot = take (slot COUNT_SLOT) (map slot (numbers_from FIRST_LOCK_SLOT MOST_LISTED))
-
--- the locks stand in these slots, one after another, from this one on
-abbrev pub AreFrom : (slot : ℕ → ℕ) → (at : ℕ) → (locks : List ℕ) → Type 0
-AreFrom slot at [] = Unit {0}
-AreFrom slot at (lock ∷ locks) = (slot at ≡ lock) × AreFrom slot (at + 1) locks
+-- the locks are these values, one after another, from this index on
+abbrev pub AreFrom : (value : ℕ → ℕ) → (index : ℕ) → (locks : List ℕ) → Type 0
+AreFrom value index [] = Unit {0}
+AreFrom value index (lock ∷ locks) = (value index ≡ lock) × AreFrom value (index + 1) locks
 
 -- they are all that a list in the slots has
-abbrev pub Lists : (slot : ℕ → ℕ) → (locks : List ℕ) → Type 0
-Lists slot locks = (slot COUNT_SLOT ≡ length locks) × AreFrom slot FIRST_LOCK_SLOT locks
+abbrev pub Lists : Log → (slot : ℕ → ℕ) → (locks : List ℕ) → Type 0
+Lists log slot locks = (slot LOCKS_SLOT ≡ length locks) × AreFrom (λ index. slot (lock_slot log index)) 0 locks
 
 -- ---- The locks that a thread holds where it is resumed, by a bank with these slots
 
@@ -78,16 +74,19 @@ abbrev pub AreOnce : (locks : List ℕ) → Type 0
 AreOnce locks = (i j lock : ℕ) → slice_get locks i ≡ Some lock → slice_get locks j ≡ Some lock → i ≡ j
 
 -- the bank has the locks of the held names, and no others: by a mask, where these numbers are those of mutexes, or listed in the order of the names
+abbrev pub KeepsAs : Keeping → Log → (slot : ℕ → ℕ) → List LockName → (count : ℕ) → Resume → Type 0
+KeepsAs Masked log slot names count r = slot LOCKS_SLOT ≡ mask_with r.held.items
+KeepsAs Listed log slot names count r = Lists log slot (locks_by slot names count r) × AreOnce (locks_by slot names count r)
+
 abbrev pub KeepsLocks : Log → (slot : ℕ → ℕ) → List LockName → (count : ℕ) → Resume → Type 0
-KeepsLocks V1 slot names count r = slot MASK_SLOT ≡ mask_with r.held.items
-KeepsLocks V2 slot names count r = Lists slot (locks_by slot names count r) × AreOnce (locks_by slot names count r)
+KeepsLocks log slot names count r = KeepsAs (keeping_of log) log slot names count r
 
 -- ---- The locks that its log says
 
 -- the locks that the thread holds: none between two sections
 abbrev pub locks_at_point : Logs → (thread : ℕ) → Point → List ℕ
 locks_at_point logs thread Idle = []
-locks_at_point logs thread (At address bank) = slot_locks logs.log (λ slot. slot_in logs thread bank slot)
+locks_at_point logs thread (At address bank) = locks_read logs.log (λ slot. slot_in logs thread bank slot)
 
 abbrev pub log_locks : Logs → (thread : ℕ) → List ℕ
 log_locks logs thread = locks_at_point logs thread (point_in logs thread)

@@ -1,7 +1,7 @@
 -- What a table of places is of: each live local is of its thread and its register has a slot, and a bank has room for the locks.
 use Rattle.std.specs.Prelude.{◌≡◌, ◌<◌, ℕ, List, All, Some, Vec, slice_get}
 use Rattle.std.specs.Global.{Global}
-use Rattle.boundary_code.specs.Boundaries.{HaveRoom}
+use Rattle.log_schemes.specs.Schemes.{HaveRoom}
 use Rattle.log_schemes.specs.declared.log.Log.{Log}
 use Rattle.ido_ints.specs.declared.kinds.Kind.{Kind}
 use Rattle.c_tree.specs.Flats.{Flat}

@@ -1,7 +1,8 @@
 //! What the bank of a log says of its thread.
 ghost use Rattle.std.specs.Prelude.{◌≡◌, ◌==◌, ◌↔◌, ◌+◌, ◌*◌, ◌<◌, ◌≤◌, ◌^◌, ℕ, length, find, slice_index, IfOk, IsTrue, true, false};
 ghost use Rattle.std.specs.Option.{option_copied};
-ghost use Rattle.log_schemes.specs.declared.log.Log.TheVariants.{V1, V2};
+ghost use Rattle.log_schemes.specs.declared.keeping.Keeping.TheVariants.{Listed};
+ghost use Rattle.log_schemes.specs.Schemes.{keeping_of, lock_slot};
 ghost use Rattle.log_schemes.specs.Layout.{log_words};
 ghost use Rattle.ido_base.specs.Locks.{mask_with};
 ghost use Rattle.c_tree.specs.Flats.{flat_of, thread_of};
@@ -20,8 +21,8 @@ use c_tree::flat::{Flat, Thread};
 use c_tree::lock_names::lock_names;
 use flat_compile::resumes::LiveLocal;
 use ido_base::memory::OutOfMemory;
-use log_schemes::addresses::{COUNT_SLOT, MASK_SLOT, MOST_LISTED};
-use log_schemes::log::Log;
+use log_schemes::addresses::LOCKS_SLOT;
+use log_schemes::log::{Log, MOST_LISTED};
 use std::alloc::Global;
 
 // ---- Its thread
@@ -137,13 +138,13 @@ fn mask_with(numbers: &[u32]) -> u64
 }
 
 /// Whether the bank's mask has the mutexes of these numbers, and no others.
-pub fn has_mask(logs: &[u64], thread: u32, bank: u32, numbers: &[u32]) -> bool
-    requires log { log_words V1 * (thread + 1) ≤ length logs.now }
+pub fn has_mask(log: Log, logs: &[u64], thread: u32, bank: u32, numbers: &[u32]) -> bool
+    requires log { log_words log * (thread + 1) ≤ length logs.now }
     requires bank { bank < 2 }
     requires fits { mask_with numbers.now < 2 ^ 64 }
-    ensures { result ≡ (slot_in (logs_of V1 logs.now) thread bank MASK_SLOT == mask_with numbers.now) }
+    ensures { result ≡ (slot_in (logs_of log logs.now) thread bank LOCKS_SLOT == mask_with numbers.now) }
 {
-    slot_in(Log::V1, logs, thread, bank, MASK_SLOT as u8) == mask_with(numbers)
+    slot_in(log, logs, thread, bank, LOCKS_SLOT) == mask_with(numbers)
 }
 
 /// Whether the word is the number of the lock.
@@ -154,37 +155,39 @@ fn is_lock(word: u64, lock: u128) -> bool
 }
 
 /// Whether the lock stands in that place of the bank's list.
-fn is_listed_at(logs: &[u64], thread: u32, bank: u32, index: usize, lock: u128) -> bool
-    requires log { log_words V2 * (thread + 1) ≤ length logs.now }
+fn is_listed_at(log: Log, logs: &[u64], thread: u32, bank: u32, index: usize, lock: u128) -> bool
+    requires keeping { keeping_of log ≡ Listed }
+    requires log { log_words log * (thread + 1) ≤ length logs.now }
     requires bank { bank < 2 }
     requires index { index < MOST_LISTED }
-    ensures { result ≡ (slot_in (logs_of V2 logs.now) thread bank (32 + index) == lock) }
+    ensures { result ≡ (slot_in (logs_of log logs.now) thread bank (lock_slot log index) == lock) }
 {
-    is_lock(listed_in(logs, thread, bank, index as u32), lock)
+    is_lock(listed_in(log, logs, thread, bank, index as u8), lock)
 }
 
 /// Whether the bank says that so many locks are listed.
-fn has_count(logs: &[u64], thread: u32, bank: u32, count: usize) -> bool
-    requires log { log_words V2 * (thread + 1) ≤ length logs.now }
+fn has_count(log: Log, logs: &[u64], thread: u32, bank: u32, count: usize) -> bool
+    requires log { log_words log * (thread + 1) ≤ length logs.now }
     requires bank { bank < 2 }
-    ensures { result ≡ (slot_in (logs_of V2 logs.now) thread bank COUNT_SLOT == count) }
+    ensures { result ≡ (slot_in (logs_of log logs.now) thread bank LOCKS_SLOT == count) }
 {
-    slot_in(Log::V2, logs, thread, bank, COUNT_SLOT as u8) == count as u64
+    slot_in(log, logs, thread, bank, LOCKS_SLOT) == count as u64
 }
 
 /// Whether the bank lists these locks, in this order, and no others.
-pub fn lists(logs: &[u64], thread: u32, bank: u32, locks: &[u128]) -> bool
-    requires log { log_words V2 * (thread + 1) ≤ length logs.now }
+pub fn lists(log: Log, logs: &[u64], thread: u32, bank: u32, locks: &[u128]) -> bool
+    requires keeping { keeping_of log ≡ Listed }
+    requires log { log_words log * (thread + 1) ≤ length logs.now }
     requires bank { bank < 2 }
     requires few { length locks.now ≤ MOST_LISTED }
-    ensures { IsTrue result ↔ Lists (λ slot. slot_in (logs_of V2 logs.now) thread bank slot) locks.now }
+    ensures { IsTrue result ↔ Lists log (λ slot. slot_in (logs_of log logs.now) thread bank slot) locks.now }
 {
     for index in 0..locks.len() {
-        if !is_listed_at(logs, thread, bank, index, locks[index]) {
+        if !is_listed_at(log, logs, thread, bank, index, locks[index]) {
             return false;
         }
     }
-    has_count(logs, thread, bank, locks.len())
+    has_count(log, logs, thread, bank, locks.len())
 }
 
 /// Whether the lock of that place stands before it too.

@@ -1,8 +1,7 @@
 //! Sizes of what logs hold.
-use log_schemes::addresses::{BANK_LINES, LINE_SLOTS};
 
-/// Slots of a bank.
-pub const BANK_SLOTS: u8 = BANK_LINES * LINE_SLOTS;
+/// Each bank has at least as many slots: one for each number of a register.
+pub const BANK_SLOTS: u8 = 32;
 
 /// A mask of mutexes has a bit for each number below this one.
 pub const MASK_BITS: u32 = 64;

@@ -1,16 +1,16 @@
 //! The durable words of logs.
 ghost use Rattle.std.specs.Prelude.{◌≡◌, ◌==◌, ◌+◌, ◌-◌, ◌*◌, ◌/◌, ◌<◌, ◌≤◌, length};
-ghost use Rattle.log_schemes.specs.declared.log.Log.TheVariants.{V1, V2};
+ghost use Rattle.log_schemes.specs.declared.keeping.Keeping.TheVariants.{Listed};
+ghost use Rattle.log_schemes.specs.Schemes.{keeping_of, lock_slot, locks_read, read_as};
 ghost use Rattle.log_schemes.specs.Layout.{log_words};
 ghost use Rattle.ido_base.specs.Locks.{has_lock, locks_in};
 ghost use Rattle.crash_images.specs.Contents.{word_bytes};
-ghost use Rattle.image_checks.specs.Logs.{log_locks, logged, logs_of, point_in, slot_in, slot_locks};
+ghost use Rattle.image_checks.specs.Logs.{log_locks, logged, logs_of, point_in, slot_in};
 
 use crate::limits::{BANK_SLOTS, MASK_BITS};
-use log_schemes::addresses::{
-    COUNT_SLOT, FIRST_LOCK_SLOT, LOGS_BASE, MASK_SLOT, MOST_LISTED, SLOT_BYTES, point_at, slot_at,
-};
-use log_schemes::log::Log;
+use log_schemes::addresses::{LOCKS_SLOT, LOGS_BASE, SLOT_BYTES, point_at, slot_at};
+use log_schemes::keeping::Keeping;
+use log_schemes::log::{Log, MOST_LISTED};
 use log_schemes::point::{Point, read_point};
 
 /// The word at an address of the logs.
@@ -22,51 +22,12 @@ fn logged(logs: &[u64], address: u64) -> u64
     logs[((address - LOGS_BASE) / SLOT_BYTES) as usize]
 }
 
-/// Where the thread is resumed, by a log with masks.
-fn masked_point(logs: &[u64], thread: u32) -> Point
-    requires { log_words V1 * (thread + 1) ≤ length logs.now }
-    ensures { result ≡ point_in (logs_of V1 logs.now) thread }
-{
-    read_point(logged(logs, point_at(Log::V1, thread)))
-}
-
-/// Where the thread is resumed, by a log with lists.
-fn listed_point(logs: &[u64], thread: u32) -> Point
-    requires { log_words V2 * (thread + 1) ≤ length logs.now }
-    ensures { result ≡ point_in (logs_of V2 logs.now) thread }
-{
-    read_point(logged(logs, point_at(Log::V2, thread)))
-}
-
 /// Where the thread is resumed.
 pub fn point_in(log: Log, logs: &[u64], thread: u32) -> Point
     requires { log_words log * (thread + 1) ≤ length logs.now }
     ensures { result ≡ point_in (logs_of log logs.now) thread }
 {
-    match log {
-        Log::V1 => masked_point(logs, thread),
-        Log::V2 => listed_point(logs, thread),
-    }
-}
-
-/// What is in a slot of a bank, 0 or 1, of the thread's log, which has masks.
-fn masked_slot(logs: &[u64], thread: u32, bank: u32, slot: u8) -> u64
-    requires log { log_words V1 * (thread + 1) ≤ length logs.now }
-    requires bank { bank < 2 }
-    requires slot { slot < BANK_SLOTS }
-    ensures { result ≡ slot_in (logs_of V1 logs.now) thread bank slot }
-{
-    logged(logs, slot_at(Log::V1, thread, bank, u32::from(slot)))
-}
-
-/// What is in a slot of a bank, 0 or 1, of the thread's log, which has lists.
-fn listed_slot(logs: &[u64], thread: u32, bank: u32, slot: u8) -> u64
-    requires log { log_words V2 * (thread + 1) ≤ length logs.now }
-    requires bank { bank < 2 }
-    requires slot { slot < BANK_SLOTS }
-    ensures { result ≡ slot_in (logs_of V2 logs.now) thread bank slot }
-{
-    logged(logs, slot_at(Log::V2, thread, bank, u32::from(slot)))
+    read_point(logged(logs, point_at(log, thread)))
 }
 
 /// What is in the slot of a register, or in slot 0, of a bank, 0 or 1, of the thread's log.
@@ -76,22 +37,20 @@ pub fn slot_in(log: Log, logs: &[u64], thread: u32, bank: u32, slot: u8) -> u64
     requires slot { slot < BANK_SLOTS }
     ensures { result ≡ slot_in (logs_of log logs.now) thread bank slot }
 {
-    match log {
-        Log::V1 => masked_slot(logs, thread, bank, slot),
-        Log::V2 => listed_slot(logs, thread, bank, slot),
-    }
+    logged(logs, slot_at(log, thread, bank, u32::from(slot)))
 }
 
 /// What is in a slot of those that list locks.
-pub fn listed_in(logs: &[u64], thread: u32, bank: u32, index: u32) -> u64
-    requires log { log_words V2 * (thread + 1) ≤ length logs.now }
+pub fn listed_in(log: Log, logs: &[u64], thread: u32, bank: u32, index: u8) -> u64
+    requires keeping { keeping_of log ≡ Listed }
+    requires log { log_words log * (thread + 1) ≤ length logs.now }
     requires bank { bank < 2 }
     requires index { index < MOST_LISTED }
-    ensures { result ≡ slot_in (logs_of V2 logs.now) thread bank (FIRST_LOCK_SLOT + index) }
+    ensures { result ≡ slot_in (logs_of log logs.now) thread bank (lock_slot log index) }
 {
     logged(
         logs,
-        slot_at(Log::V2, thread, bank, FIRST_LOCK_SLOT + index),
+        slot_at(log, thread, bank, u32::from(log.lock_slot(index))),
     )
 }
 
@@ -124,14 +83,15 @@ fn mask_has(mask: u64, lock: u32) -> bool
 }
 
 /// Whether the bank lists the mutex, among as many as it says, 16 at most.
-fn is_listed(logs: &[u64], thread: u32, bank: u32, lock: u32) -> bool
-    requires log { log_words V2 * (thread + 1) ≤ length logs.now }
+fn is_listed(log: Log, logs: &[u64], thread: u32, bank: u32, lock: u32) -> bool
+    requires keeping { keeping_of log ≡ Listed }
+    requires log { log_words log * (thread + 1) ≤ length logs.now }
     requires bank { bank < 2 }
-    ensures { result ≡ has_lock (slot_locks V2 (λ slot. slot_in (logs_of V2 logs.now) thread bank slot)) lock }
+    ensures { result ≡ has_lock (read_as Listed log (λ slot. slot_in (logs_of log logs.now) thread bank slot)) lock }
 {
-    let count = slot_in(Log::V2, logs, thread, bank, COUNT_SLOT as u8).min(MOST_LISTED);
-    for index in 0..count as u32 {
-        if is_number(listed_in(logs, thread, bank, index), lock) {
+    let count = slot_in(log, logs, thread, bank, LOCKS_SLOT).min(u64::from(MOST_LISTED));
+    for index in 0..count as u8 {
+        if is_number(listed_in(log, logs, thread, bank, index), lock) {
             return true;
         }
     }
@@ -142,11 +102,11 @@ fn is_listed(logs: &[u64], thread: u32, bank: u32, lock: u32) -> bool
 fn bank_has(log: Log, logs: &[u64], thread: u32, bank: u32, lock: u32) -> bool
     requires log { log_words log * (thread + 1) ≤ length logs.now }
     requires bank { bank < 2 }
-    ensures { result ≡ has_lock (slot_locks log (λ slot. slot_in (logs_of log logs.now) thread bank slot)) lock }
+    ensures { result ≡ has_lock (locks_read log (λ slot. slot_in (logs_of log logs.now) thread bank slot)) lock }
 {
-    match log {
-        Log::V1 => mask_has(slot_in(log, logs, thread, bank, MASK_SLOT as u8), lock),
-        Log::V2 => is_listed(logs, thread, bank, lock),
+    match log.keeping() {
+        Keeping::Masked => mask_has(slot_in(log, logs, thread, bank, LOCKS_SLOT), lock),
+        Keeping::Listed => is_listed(log, logs, thread, bank, lock),
     }
 }
 

@@ -3,7 +3,8 @@ ghost use Rattle.std.specs.Prelude.{◌≡◌, ◌==◌, ◌↔◌, ◌+◌, ◌
 ghost use Rattle.std.specs.Prelude.{IfSome, IsTrue, MatchOption, MatchResult};
 ghost use Rattle.std.specs.Option.{option_copied};
 ghost use Rattle.ido_base.specs.declared.limits.TheConstants.{MOST_THREADS};
-ghost use Rattle.log_schemes.specs.declared.log.Log.TheVariants.{V1, V2};
+ghost use Rattle.log_schemes.specs.declared.keeping.Keeping.TheVariants.{Masked, Listed};
+ghost use Rattle.log_schemes.specs.Schemes.{keeping_of};
 ghost use Rattle.ido_base.specs.declared.location.Location.{Location};
 ghost use Rattle.log_schemes.specs.Layout.{log_words};
 ghost use Rattle.c_tree.specs.Flats.{flat_of};
@@ -32,8 +33,8 @@ use c_tree::flat::Flat;
 use c_tree::program::Variable;
 use flat_compile::resumes::{LiveLocal, Resume};
 use ido_base::location::Location;
-use log_schemes::addresses::MOST_LISTED;
-use log_schemes::log::Log;
+use log_schemes::keeping::Keeping;
+use log_schemes::log::{Log, MOST_LISTED};
 use log_schemes::point::Point;
 use memory_layout::roles::{PENDING_ADDRESS, PENDING_VALUE};
 use source_machine::variables::Variables;
@@ -182,6 +183,7 @@ fn check_beside(
 /// The first fault of a bank with a mask, by which the thread is resumed there: locks are looked at before registers.
 fn check_masked(
     alloc: Global,
+    log: Log,
     flat: &Flat,
     addresses: &[u32],
     names: &[LockRef<'_>],
@@ -191,36 +193,29 @@ fn check_masked(
     bank: u32,
     resume: &Resume,
 ) -> Result<(), ImageError>
+    requires keeping { keeping_of log ≡ Masked }
     requires addresses { AreAddresses (map shape_of (flat_of flat.now).variables) addresses.now }
     requires names { names_of names.now ≡ names_of_thread (flat_of flat.now) thread }
-    requires locals { locals.now ≡ bank_locals (flat_of flat.now) (logs_of V1 logs.now) thread bank resume.now.live.items }
+    requires locals { locals.now ≡ bank_locals (flat_of flat.now) (logs_of log logs.now) thread bank resume.now.live.items }
     requires slots { HaveSlots resume.now.live.items }
-    requires room { HasRoom V1 resume.now }
-    requires log { log_words V1 * (thread + 1) ≤ length logs.now }
+    requires room { HasRoom log resume.now }
+    requires log { log_words log * (thread + 1) ≤ length logs.now }
     requires bank { bank < 2 }
-    ensures { MatchResult result (λ _. IsRight (flat_of flat.now) (logs_of V1 logs.now) thread bank resume.now)
-        (IsBankFault (flat_of flat.now) (logs_of V1 logs.now) thread bank resume.now) }
+    ensures { MatchResult result (λ _. IsRight (flat_of flat.now) (logs_of log logs.now) thread bank resume.now)
+        (IsBankFault (flat_of flat.now) (logs_of log logs.now) thread bank resume.now) }
 {
-    if !has_mask(logs, thread, bank, &resume.held) {
+    if !has_mask(log, logs, thread, bank, &resume.held) {
         return Err(ImageError::Mask { thread });
     }
     check_beside(
-        alloc,
-        Log::V1,
-        flat,
-        addresses,
-        names,
-        locals,
-        logs,
-        thread,
-        bank,
-        resume,
+        alloc, log, flat, addresses, names, locals, logs, thread, bank, resume,
     )
 }
 
 /// The first fault of a bank with a list, by which the thread is resumed there, where it holds these locks: they are looked at after registers.
 fn check_listed(
     alloc: Global,
+    log: Log,
     flat: &Flat,
     addresses: &[u32],
     names: &[LockRef<'_>],
@@ -231,31 +226,23 @@ fn check_listed(
     bank: u32,
     resume: &Resume,
 ) -> Result<(), ImageError>
+    requires keeping { keeping_of log ≡ Listed }
     requires addresses { AreAddresses (map shape_of (flat_of flat.now).variables) addresses.now }
     requires names { names_of names.now ≡ names_of_thread (flat_of flat.now) thread }
-    requires locals { locals.now ≡ bank_locals (flat_of flat.now) (logs_of V2 logs.now) thread bank resume.now.live.items }
-    requires locks { locks.now ≡ locks_by (λ slot. slot_in (logs_of V2 logs.now) thread bank slot) (names_of_thread (flat_of flat.now) thread)
+    requires locals { locals.now ≡ bank_locals (flat_of flat.now) (logs_of log logs.now) thread bank resume.now.live.items }
+    requires locks { locks.now ≡ locks_by (λ slot. slot_in (logs_of log logs.now) thread bank slot) (names_of_thread (flat_of flat.now) thread)
         (length (kinds_of_thread (flat_of flat.now) thread)) resume.now }
     requires few { length locks.now ≤ MOST_LISTED }
     requires slots { HaveSlots resume.now.live.items }
-    requires log { log_words V2 * (thread + 1) ≤ length logs.now }
+    requires log { log_words log * (thread + 1) ≤ length logs.now }
     requires bank { bank < 2 }
-    ensures { MatchResult result (λ _. IsRight (flat_of flat.now) (logs_of V2 logs.now) thread bank resume.now)
-        (IsBankFault (flat_of flat.now) (logs_of V2 logs.now) thread bank resume.now) }
+    ensures { MatchResult result (λ _. IsRight (flat_of flat.now) (logs_of log logs.now) thread bank resume.now)
+        (IsBankFault (flat_of flat.now) (logs_of log logs.now) thread bank resume.now) }
 {
     check_beside(
-        alloc,
-        Log::V2,
-        flat,
-        addresses,
-        names,
-        locals,
-        logs,
-        thread,
-        bank,
-        resume,
+        alloc, log, flat, addresses, names, locals, logs, thread, bank, resume,
     )?;
-    if !lists(logs, thread, bank, locks) {
+    if !lists(log, logs, thread, bank, locks) {
         return Err(ImageError::Mask { thread });
     }
     if !are_once(locks) {
@@ -267,6 +254,7 @@ fn check_listed(
 /// The first fault of a bank with a list, by which the thread is resumed there.
 fn check_list(
     alloc: Global,
+    log: Log,
     flat: &Flat,
     addresses: &[u32],
     names: &[LockRef<'_>],
@@ -276,19 +264,20 @@ fn check_list(
     bank: u32,
     resume: &Resume,
 ) -> Result<(), ImageError>
+    requires keeping { keeping_of log ≡ Listed }
     requires addresses { AreAddresses (map shape_of (flat_of flat.now).variables) addresses.now }
     requires names { names_of names.now ≡ names_of_thread (flat_of flat.now) thread }
-    requires locals { locals.now ≡ bank_locals (flat_of flat.now) (logs_of V2 logs.now) thread bank resume.now.live.items }
+    requires locals { locals.now ≡ bank_locals (flat_of flat.now) (logs_of log logs.now) thread bank resume.now.live.items }
     requires slots { HaveSlots resume.now.live.items }
-    requires room { HasRoom V2 resume.now }
-    requires log { log_words V2 * (thread + 1) ≤ length logs.now }
+    requires room { HasRoom log resume.now }
+    requires log { log_words log * (thread + 1) ≤ length logs.now }
     requires bank { bank < 2 }
-    ensures { MatchResult result (λ _. IsRight (flat_of flat.now) (logs_of V2 logs.now) thread bank resume.now)
-        (IsFaultOrMemory (IsBankFault (flat_of flat.now) (logs_of V2 logs.now) thread bank resume.now)) }
+    ensures { MatchResult result (λ _. IsRight (flat_of flat.now) (logs_of log logs.now) thread bank resume.now)
+        (IsFaultOrMemory (IsBankFault (flat_of flat.now) (logs_of log logs.now) thread bank resume.now)) }
 {
     let locks = locks_of(alloc, names, locals, &resume.held)?;
     check_listed(
-        alloc, flat, addresses, names, locals, &locks, logs, thread, bank, resume,
+        alloc, log, flat, addresses, names, locals, &locks, logs, thread, bank, resume,
     )?;
     Ok(())
 }
@@ -315,15 +304,15 @@ fn check_bank(
     let names = names_of_thread(alloc, flat, thread)?;
     let count = locals_of_thread(flat, thread);
     let locals = locals_by(alloc, log, &resume.live, logs, thread, bank, count)?;
-    match log {
-        Log::V1 => {
+    match log.keeping() {
+        Keeping::Masked => {
             check_masked(
-                alloc, flat, addresses, &names, &locals, logs, thread, bank, resume,
+                alloc, log, flat, addresses, &names, &locals, logs, thread, bank, resume,
             )?;
             Ok(())
         }
-        Log::V2 => check_list(
-            alloc, flat, addresses, &names, &locals, logs, thread, bank, resume,
+        Keeping::Listed => check_list(
+            alloc, log, flat, addresses, &names, &locals, logs, thread, bank, resume,
         ),
     }
 }

@@ -10,7 +10,13 @@ use Rattle.std.proofs.lemmas.Option.{none-some, same_Some, slice_get_within}
 use Rattle.ido_base.specs.declared.limits.TheConstants.{MOST_ELEMENTS}
 use Rattle.ido_base.specs.declared.location.Location.{Location}
 use Rattle.log_schemes.specs.declared.log.Log.{Log}
-use Rattle.log_schemes.specs.declared.log.Log.TheVariants.{V1, V2}
+use Rattle.log_schemes.specs.declared.keeping.Keeping.{Keeping}
+use Rattle.log_schemes.specs.declared.keeping.Keeping.TheVariants.{Masked, Listed}
+use Rattle.log_schemes.specs.declared.size.LogSize.{LogSize}
+use Rattle.log_schemes.specs.declared.size.LogSize.TheVariants.{Lines16, Lines32}
+use Rattle.log_schemes.specs.Schemes as schemes
+use Rattle.log_schemes.specs.Schemes.{keeping_of, lines_of}
+use Rattle.ido_base.specs.Layout.{variable_lines}
 use Rattle.ido_base.specs.Layout.{logs_base}
 use Rattle.log_schemes.specs.Layout.{log_words, word_count}
 use Rattle.ido_base.specs.Locks.{has_lock}
@@ -46,8 +52,8 @@ use Rattle.flow_graph.specs.Paths.{naming_of}
 use Rattle.flow_graph.proofs.Public.{all_at}
 use Rattle.known_references.proofs.Public.{found_or}
 use Rattle.log_states.specs.Logs.{HasLog, IsKeepable, IsWord, log_word}
-use Rattle.log_states.specs.Schemes.{HasKept}
-use Rattle.log_states.proofs.Public.{contains_cases, contains_none, kept_are_keepable, scheme}
+use Rattle.log_states.specs.BanksRead.{HasKept}
+use Rattle.log_states.proofs.Public.{banks_read, contains_cases, contains_none, kept_are_keepable}
 use Rattle.rv64_codegen.proofs.Public.{numbers_plain}
 use Rattle.thread_code.specs.Plans.{Plan, Thread, locks_before, locks_held, locks_held_from, set_before}
 use Rattle.recovered_threads.specs.RecordDescriptions.{Code, ResumesAt}
@@ -57,13 +63,14 @@ use Rattle.flat_compile.specs.declared.resumes.LiveLocal.{LiveLocal}
 use Rattle.flat_compile.specs.declared.resumes.Resume.{Resume}
 use Rattle.flat_compile.specs.ResumePlaces.{Spot, IsSpot, address_in, goes_on_at, IsLiveLocal, IsResumeOf, AreResumes, knowns_before, refers_in, resumes_at}
 use Rattle.flat_compile.specs.ResumePlaces as places
-use Rattle.image_checks.specs.Logs.{AreOnce, HoldsLock, KeepsLocks, Logs, local_by, locks_by, logged, logs_of, names_at, slot_in}
+use Rattle.image_checks.specs.Logs.{AreOnce, HoldsLock, KeepsAs, Logs, local_by, locks_by, logged, logs_of, names_at, slot_in}
 use Rattle.image_checks.specs.Checks.{IsElementOf, IsForm, IsLocalWord, IsReferenceWord, IsResumableLog, IsUnnull, IsUnshared}
 use Rattle.image_checks.specs.Checks.{kinds_of_thread, names_of_thread, resume_at}
 use Rattle.image_checks.specs.Checks as checks
 use Rattle.image_checks.specs.ResumeSlots.{HaveKinds}
 use Rattle.image_checks.specs.VariableReferences.{AreReferences}
 use Rattle.image_checks.proofs.Public.{found_local, local_at, locals_held, locks_are, locks_each, locks_there, named_held, point_is, recorded_there}
+use Rattle.log_schemes.proofs.Public.{register_is}
 use Rattle.crash_images.specs.Contents.{log_of}
 use Rattle.image_runs.specs.Shapes.{GoesOnAt, HasThreadShape}
 use Rattle.image_runs.specs.Shapes as shapes
@@ -207,7 +214,9 @@ module _ (y : System) (words : List Word) (ws : List ℕ)
       slot_there at_slot = recorded_there log words ws there n at_slot ∙ ap (λ (b : ℕ). slot_in logs n b at_slot) (sym w.bank_is)
 
       register_there : (register : ℕ) → IsKeepable log register → read (shapes.resumed y.plan code words) register ≡ slot register
-      register_there register k = (scheme log).reads.registers words n register k ∙ slot_there register
+      register_there register k =
+          (banks_read log).registers words n register k
+          ∙ (ap (λ (at_slot : ℕ). recorded log words n at_slot) (sym (register_is log register)) ∙ slot_there register)
 
       -- ---- Locals
 
@@ -344,7 +353,7 @@ module _ (y : System) (words : List Word) (ws : List ℕ)
       abbrev own_locks : List ℕ
       own_locks = locks_before y.plan t numbers r.node
 
-      plain_there : log ≡ V1 → r.held.items ≡ own_locks
+      plain_there : keeping_of log ≡ Masked → r.held.items ≡ own_locks
       plain_there masks = of.found.held_is ∙ numbers_plain y.plan s.plan t code.of masks numbers r.node of.found.own
 
       locks_told : locks_by slot (names_of_thread x n) (length (kinds_of_thread x n)) r ≡ own_locks
@@ -358,9 +367,9 @@ module _ (y : System) (words : List Word) (ws : List ℕ)
           slot_there one.0
           ∙ locks_each slot (names_of_thread x n) (length (kinds_of_thread x n)) r own_locks log right.locks plain_there locks_told one c
 
-      once_by_log : (way : Log) → log ≡ way → KeepsLocks way slot (names_of_thread x n) (length (kinds_of_thread x n)) r → AreOnce own_locks
-      once_by_log V1 is keeps = subst AreOnce (sym of.found.held_is ∙ plain_there is) (held_once set)
-      once_by_log V2 is keeps = subst AreOnce locks_told keeps.1
+      once_as : (way : Keeping) → keeping_of log ≡ way → KeepsAs way log slot (names_of_thread x n) (length (kinds_of_thread x n)) r → AreOnce own_locks
+      once_as Masked is keeps = subst AreOnce (sym of.found.held_is ∙ plain_there is) (held_once set)
+      once_as Listed is keeps = subst AreOnce locks_told keeps.1
 
       -- ---- Where a store is pending
 
@@ -394,7 +403,7 @@ module _ (y : System) (words : List Word) (ws : List ℕ)
         refer = refer_there;
         unnull = unnull_there;
         locks = locks;
-        once = once_by_log log refl right.locks;
+        once = once_as (keeping_of log) refl right.locks;
         pending = λ is location at_node writes. address_there is location at_node writes;
         value = λ is location at_node writes. value_there is location at_node writes;
       }
@@ -409,13 +418,21 @@ module _ (y : System) (words : List Word) (ws : List ℕ)
 
 -- ---- All of it
 
+words_as : (size : LogSize) (words logs threads : ℕ) → words ≡ 8192 + logs → logs ≡ 8 * lines_of size * threads →
+    words ≡ 8 * (variable_lines + lines_of size * threads)
+words_as Lines16 words logs threads all own = omega (arith, all, own)
+words_as Lines32 words logs threads all own = omega (arith, all, own)
+
 size_of : (log : Log) (words logs threads : ℕ) → words ≡ 8192 + logs → logs ≡ log_words log * threads → words ≡ word_count log threads
-size_of V1 words logs threads all own = omega (arith, all, own)
-size_of V2 words logs threads all own = omega (arith, all, own)
+size_of log words logs threads all own = words_as (schemes.size_of log) words logs threads all own
+
+within_as : (size : LogSize) (words threads n : ℕ) → words ≡ 8 * (variable_lines + lines_of size * threads) → n < threads →
+    8 * (variable_lines + lines_of size * (n + 1)) ≤ words
+within_as Lines16 words threads n all below = omega (arith, all, below)
+within_as Lines32 words threads n all below = omega (arith, all, below)
 
 log_within : (log : Log) (words threads n : ℕ) → words ≡ word_count log threads → n < threads → word_count log (n + 1) ≤ words
-log_within V1 words threads n all below = omega (arith, all, below)
-log_within V2 words threads n all below = omega (arith, all, below)
+log_within log words threads n all below = within_as (schemes.size_of log) words threads n all below
 
 pub accepted_have_shape : AcceptedHaveShape
 accepted_have_shape version flat object marks cuts table state r is right wf =

@@ -42,7 +42,7 @@ use Rattle.flow_graph.specs.Paths.{LiesInWritten, naming_of, stored_element}
 use Rattle.flow_graph.proofs.Public.{Good, ShapedAs, found_in, node_shaped, nodes_at}
 use Rattle.log_states.specs.LogInvariant.{LogInv}
 use Rattle.log_states.specs.Logs.{Record, IsRecord, IsRecorded, HasLog, nothing_recorded}
-use Rattle.log_states.specs.Schemes.{HasKept}
+use Rattle.log_states.specs.BanksRead.{HasKept}
 use Rattle.log_states.specs.Laws.{ResumesRecord}
 use Rattle.log_states.specs.Machines.{config_of}
 use Rattle.log_states.proofs.Public.{crashes_standing, ends, log_facts}

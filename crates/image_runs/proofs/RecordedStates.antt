@@ -32,7 +32,8 @@ use Rattle.source_machine.specs.ElementLocks.{element_lock}
 use Rattle.source_machine.specs.Discipline.{HoldsNames, StateKeeps, ThreadKeeps}
 use Rattle.source_machine.proofs.Public.{held_found, held_there}
 use Rattle.rv64_isa.specs.declared.object.Slot.{Slot}
-use Rattle.machine_model.specs.Machine.{Hart, World, after_crash_of, after_event, durable_point, fresh_hart, happens, numbers_from, phase_after_crash, record_of}
+use Rattle.machine_model.specs.Machine.{Hart, World, after_crash_of, after_event, durable_point, fresh_hart, happens, phase_after_crash, record_of}
+use Rattle.log_schemes.specs.Schemes.{numbers_from}
 use Rattle.boundary_code.specs.Boundaries.{is_empty}
 use Rattle.flow_graph.specs.Actions.{FlowState, GraphThread}
 use Rattle.flow_graph.specs.Lockstep.{GraphThreadMatches, Matches, IsOwnNode}

@@ -8,8 +8,10 @@ use Rattle.ido_base.specs.Layout.{word_number}
 use Rattle.log_schemes.specs.Layout.{log_words, point_at, slot_at}
 use Rattle.rv64_isa.specs.Rows.{read}
 use Rattle.machine_model.specs.Machine.{bank_of, durable_point, record_of, recorded, resumed_registers}
-use Rattle.log_states.specs.Logs.{nothing_recorded, slot_index, IsInBank, IsKeepable, IsDurable, IsRecorded, HasLog, log_word}
-use Rattle.log_states.proofs.Public.{contains_none, scheme, slot_in_log, some_words}
+use Rattle.log_states.specs.Logs.{nothing_recorded, IsInBank, IsKeepable, IsDurable, IsRecorded, HasLog, log_word}
+use Rattle.log_schemes.specs.SchemeFacts.{slot_index}
+use Rattle.log_states.proofs.Public.{banks_read, contains_none, scheme, slot_in_log, some_words}
+use Rattle.log_schemes.specs.Schemes.{register_slot}
 
 single : (words : List ℕ) (i : ℕ) → word_at (map word_of words) i ≡ word_of (slice_index words i)
 single [] i = refl
@@ -51,8 +53,8 @@ recorded_small log thread words has slot inside =
 pub register_small : (log : Log) (thread : ℕ) (words : List Word) → HasLog log thread words → (register : ℕ) → IsKeepable log register →
     read (resumed_registers log words thread) register < 2 ^ 64
 register_small log thread words has register keepable =
-    subst (λ (value : ℕ). value < 2 ^ 64) (sym ((scheme log).reads.registers words thread register keepable))
-    (recorded_small log thread words has register ((scheme log).keeps.registers register keepable).slot)
+    subst (λ (value : ℕ). value < 2 ^ 64) (sym ((banks_read log).registers words thread register keepable))
+    (recorded_small log thread words has (register_slot log register) ((scheme log).apart.register register keepable).exists)
 
 -- a thread's record by its point
 pub record_none : (log : Log) (words : List Word) (thread : ℕ) → durable_point log words thread ≡ 0 → record_of log words thread ≡ []

@@ -33,7 +33,8 @@ use Rattle.source_machine.proofs.Public.{keep_opened_all}
 use Rattle.memory_layout.specs.Roles.{pending_address, pending_value}
 use Rattle.rv64_isa.specs.Rows.{read}
 use Rattle.machine_model.specs.Machine.{bank_of, durable_point, recorded, record_of, resumed_registers}
-use Rattle.boundary_code.specs.Boundaries.{is_empty, kept_locks}
+use Rattle.boundary_code.specs.Boundaries.{is_empty}
+use Rattle.log_schemes.specs.Schemes.{kept_locks}
 use Rattle.variable_words.proofs.Public.{address_is, element_whole, well_formed_placed}
 use Rattle.flow_graph.specs.Actions.{FlowState, GraphThread, Seen, graph_thread_start, seen_by}
 use Rattle.flow_graph.specs.Liveness.{NodeAt, IsLive}
@@ -48,10 +49,11 @@ use Rattle.region_attempts.specs.Origins.{IsPendingAt}
 use Rattle.region_attempts.proofs.Public.{none_known}
 use Rattle.region_cutter.specs.LocksAtBoundaries.{ChosenAreLocked}
 use Rattle.log_states.specs.Logs.{Record, side_of, IsKeepable, IsRecord, IsDurable, IsRecorded, HasLog, nothing_recorded, slot_in, slots_of, value_of, kept_in}
-use Rattle.log_states.specs.Logs.{AreLoggable, bank_word}
-use Rattle.log_states.specs.Schemes.{HasKept}
+use Rattle.log_states.specs.Logs.{bank_word}
+use Rattle.log_schemes.specs.SchemeFacts.{AreLoggable}
+use Rattle.log_states.specs.BanksRead.{HasKept}
 use Rattle.log_states.specs.Laws.{ResumesRecord}
-use Rattle.log_states.proofs.Public.{kept_are_keepable, log_facts, nothing_is_record, scheme, slot_cases}
+use Rattle.log_states.proofs.Public.{banks_read, kept_are_keepable, lock_value, log_facts, nothing_is_record, register_value, slot_cases}
 use Rattle.thread_code.specs.Plans.{Plan, Thread, IsPlan, IsKept, of_local, of_address, of_value}
 use Rattle.thread_code.specs.Plans.{held_names_before, locks_before, set_before}
 use Rattle.thread_code.proofs.Public.{numbers_some}
@@ -491,12 +493,12 @@ module _ (locked : ChosenAreLocked) (p : Plan) (plan : IsPlan p) (code : Code p)
     slot_is : (slot : ℕ) → Contains (slots_of p.log entry) slot → recorded p.log ws n slot ≡ value_of p.log entry slot
     slot_is slot c = elim (slot_cases p.log entry slot c) [
       | inl h ↦
-          let keeps = (scheme p.log).keeps.locks entry.locks h.pair are_loggable h.own in
-          subst (λ (k : ℕ). recorded p.log ws n k ≡ kept_in (kept_locks p.log entry.locks) k (read registers slot)) (sym h.is)
-          (keeps_locks h.pair h.own ∙ sym (keeps.alone (read registers slot)))
-      | inr more ↦
-          let k = live_keepable slot more in
-          sym ((scheme p.log).reads.registers ws n slot k) ∙ sym (((scheme p.log).keeps.registers slot k).alone entry.locks (read registers slot))
+          subst (λ (k : ℕ). recorded p.log ws n k ≡ value_of p.log entry k) (sym h.is)
+          (keeps_locks h.pair h.own ∙ sym (lock_value p.log entry are_loggable live_keepable h.pair h.own))
+      | inr h ↦
+          subst (λ (k : ℕ). recorded p.log ws n k ≡ value_of p.log entry k) (sym h.is)
+          (sym ((banks_read p.log).registers ws n h.register (live_keepable h.register h.own))
+          ∙ sym (register_value p.log entry are_loggable live_keepable h.register h.own))
     ]
 
     is_recorded : IsRecorded p.log n entry ws
@@ -545,7 +547,7 @@ module _ (locked : ChosenAreLocked) (p : Plan) (plan : IsPlan p) (code : Code p)
       set = set;
       left = keeps p plan t code.of node g.own;
       apart = apart_by locals own_names set (subst AreOnce (same_locks ∙ locks_are p plan t code.of locals node) g.once);
-      locks = (scheme p.log).reads.locks ws n own_locks are_loggable some keeps_locks ∙ locks_are p plan t code.of locals node;
+      locks = (banks_read p.log).locks ws n own_locks are_loggable some keeps_locks ∙ locks_are p plan t code.of locals node;
       held = locals_hold;
       pending = owed.guarded;
       stored = owed.stored;

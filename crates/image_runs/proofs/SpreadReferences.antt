@@ -15,7 +15,7 @@ use Rattle.c_tree.specs.WellFormed.{elements_in}
 use Rattle.c_ranges.specs.RunInvariants.{RefersSo}
 use Rattle.memory_layout.specs.Variables.{HaveRoom}
 use Rattle.recovery_semantics.specs.Elements.{number_in}
-use Rattle.machine_model.specs.Machine.{numbers_from}
+use Rattle.log_schemes.specs.Schemes.{numbers_from}
 use Rattle.variable_words.specs.Variables.{durable_variables, number_of_byte, variables_from}
 use Rattle.variable_words.proofs.Public.{element_whole, number_is, shapes, some_bytes}
 use Rattle.image_checks.specs.VariableReferences.{AreReferences}

@@ -14,6 +14,7 @@ use Rattle.flat_compile.specs.declared.resumes.Resume.{Resume}
 use Rattle.flat_compile.specs.TranslatedForms.{IsResumableAs}
 use Rattle.compiler_correctness.specs.Images.{Image, image_of}
 use Rattle.compiler_correctness.specs.Laws.{translation_of}
+use Rattle.compiler_correctness.specs.SettledImages.{IsCarriedOn, IsSettledImage}
 use Rattle.compiler_correctness.specs.Translations.{translation_to}
 use Rattle.compiler_correctness.specs.WordRuns.{RunsOn}
 use Rattle.crash_images.specs.Contents.{State, IsState, log_of}
@@ -55,3 +56,12 @@ AcceptedRunOn = (version : ImageVersion) (flat : Flat) (object : Object) (marks 
     IsResumableAs (log_of version) flat object marks cuts table → IsState version (length object.initial.items) (length object.code.items) state →
     AreReferences flat state.variables → IsWellFormedState (log_of version) flat table state →
     RunsOn (translation_to flat object marks cuts) (image_of_state state kept)
+
+-- and where it is settled, lives go on from it as from the source's start, whoever wrote it
+abbrev pub AcceptedGoOn : Type 0
+AcceptedGoOn = (version : ImageVersion) (flat : Flat) (object : Object) (marks : Marks) (cuts : Cuts) (table : List (Vec Resume Global)) (state : State)
+    (kept : LifeSchedules) →
+    IsResumableAs (log_of version) flat object marks cuts table → IsState version (length object.initial.items) (length object.code.items) state →
+    AreReferences flat state.variables → IsWellFormedState (log_of version) flat table state →
+    let c = translation_to flat object marks cuts in
+    IsSettledImage c (image_of_state state kept) → (events : List Event) → IsCarriedOn c (image_of_state state kept) events

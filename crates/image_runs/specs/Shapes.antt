@@ -19,7 +19,7 @@ use Rattle.flow_graph.specs.Nodes.{Node}
 use Rattle.flow_graph.specs.Liveness.{NodeAt, IsLive}
 use Rattle.flow_graph.specs.Paths.{naming_of}
 use Rattle.log_states.specs.Logs.{HasLog}
-use Rattle.log_states.specs.Schemes.{HasKept}
+use Rattle.log_states.specs.BanksRead.{HasKept}
 use Rattle.thread_code.specs.Plans.{Plan, IsNodeOf, locks_before}
 use Rattle.recovered_threads.specs.RecordDescriptions.{Code, Codes, ResumesAt}
 use Rattle.flat_compile.specs.ResumePlaces.{refers_in, knowns_before}

@@ -1,7 +1,7 @@
 //! Laws of durable words, whoever left them.
-ghost use Rattle.image_runs.specs.Laws.{AcceptedHaveShape, AcceptedRunOn, CrashesLeaveShape, ShapesAreStates, ShapesRunOn};
+ghost use Rattle.image_runs.specs.Laws.{AcceptedGoOn, AcceptedHaveShape, AcceptedRunOn, CrashesLeaveShape, ShapesAreStates, ShapesRunOn};
 
-use compiler_correctness::laws::recovered_words_run_on;
+use compiler_correctness::laws::{recovered_words_run_on, settled_images_go_on};
 use crash_simulation::laws::machines_resume;
 use region_cutter::laws::chosen_boundaries_are_locked;
 
@@ -31,4 +31,15 @@ pub fn shapes_run_on()
     shapes_are_states();
     images_have_shape();
     recovered_words_run_on();
+}
+
+/// What an image without a fault has after its source, where no thread has a point, and its variables are what the source has after its schedules, with every
+/// thread between sections: lives that go on from it keep what those keep that began at the source's start, whoever wrote it. In one without a crash machine
+/// and source keep step, and in all of them records, kept steps and durable variables are those of the source's run by all schedules, those of the image first.
+pub fn accepted_images_go_on()
+    ensures { AcceptedGoOn }
+{
+    shapes_are_states();
+    images_have_shape();
+    settled_images_go_on();
 }

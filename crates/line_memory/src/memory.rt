@@ -34,7 +34,8 @@ impl LineMemory {
     ghost use Rattle.ido_base.specs.Layout.{aligned, byte_number, line_bytes};
     ghost use Rattle.log_schemes.specs.Layout.{in_range as is_in_range, line_count};
     ghost use Rattle.ido_base.specs.Layout.{spread_words, word_number};
-    ghost use Rattle.log_schemes.specs.Layout.{log_words, initial_words, point_at, slot_at, bank_slots};
+    ghost use Rattle.log_schemes.specs.Layout.{log_words, initial_words, point_at, slot_at};
+    ghost use Rattle.log_schemes.specs.Schemes.{bank_slots};
     ghost use Rattle.line_memory.specs.Access.{is_width};
     ghost use Rattle.line_memory.specs.links.Queues.{queue_length, RepresentsQueue};
     ghost use Rattle.line_memory.specs.declared.queue.Queue.{Queue};

@@ -1,10 +1,12 @@
 -- Worked rows of the definitions.
-use Rattle.std.proofs.Common.{◌≡◌, refl, true, false}
+use Rattle.std.proofs.Common.{◌≡◌, ℕ, zero, suc, [], ◌∷◌, refl, true, false}
 use Rattle.ido_base.specs.Layout.{word_number}
+use Rattle.ido_base.specs.Locks.{locks_in}
 use Rattle.log_schemes.specs.declared.log.Log.TheVariants.{V1, V2}
 use Rattle.log_schemes.specs.declared.point.Point.TheVariants.{Idle, At}
 use Rattle.log_schemes.specs.Layout.{slot_at, point_at, in_range}
 use Rattle.log_schemes.specs.Points.{point_of}
+use Rattle.log_schemes.specs.Schemes.{bank_lines, kept_locks, locks_read, register_slot}
 
 between_sections : point_of 0 ≡ Idle
 between_sections = refl
@@ -39,3 +41,31 @@ past_the_logs = refl
 
 across_the_end : in_range V1 1 0x1000_FFFC 8 ≡ false
 across_the_end = refl
+
+lines_of_a_bank : bank_lines V1 ≡ 0 ∷ 1 ∷ 2 ∷ 3 ∷ []
+lines_of_a_bank = refl
+
+-- a mask of locks 1 and 3
+mask_kept : kept_locks V1 (1 ∷ 3 ∷ []) ≡ (0, 10) ∷ []
+mask_kept = refl
+
+mask_read : locks_read V1 (λ slot. 10) ≡ 1 ∷ 3 ∷ []
+unfolding locks_in
+mask_read = refl
+
+-- how many there are, and then each in its slot, in the order of the list
+list_kept : kept_locks V2 (7 ∷ 3 ∷ []) ≡ (0, 2) ∷ (32, 7) ∷ (33, 3) ∷ []
+list_kept = refl
+
+-- where the count is 2, what the slots from 34 on have is no lock
+abbrev slots : ℕ → ℕ
+slots slot = elim slot [
+  | zero ↦ 2
+  | suc before ↦ before
+]
+
+list_read : locks_read V2 slots ≡ 31 ∷ 32 ∷ []
+list_read = refl
+
+own_slot : register_slot V2 29 ≡ 29
+own_slot = refl

@@ -2,12 +2,11 @@
 use Rattle.std.specs.Prelude.{ℕ, ◌+◌, ◌*◌, List, ◌++◌, replicate, Bool, nat_le, ◌&&◌, ◌||◌}
 use Rattle.ido_base.specs.Layout.{line_bytes, variables_base, logs_base, variable_lines, words_of_bytes}
 use Rattle.log_schemes.specs.declared.log.Log.{Log}
-use Rattle.log_schemes.specs.declared.log.Log.TheVariants.{V1, V2}
+use Rattle.log_schemes.specs.Schemes.{bank_distance, lines_of, size_of}
 
 -- lines of a thread's log
 abbrev pub log_lines : Log → ℕ
-log_lines V1 = 16
-log_lines V2 = 32
+log_lines log = lines_of (size_of log)
 
 -- words of a thread's log
 abbrev pub log_words : Log → ℕ
@@ -39,15 +38,9 @@ point_at log thread = log_of log thread
 
 -- how far the second bank lies after the first
 abbrev pub bank_bytes : Log → ℕ
-bank_bytes V1 = 256
-bank_bytes V2 = 1024
+bank_bytes log = bank_distance (size_of log)
 
--- how many slots a bank has
-abbrev pub bank_slots : Log → ℕ
-bank_slots V1 = 32
-bank_slots V2 = 48
-
--- the address of a slot: of slots 1 to 31 of a bank slot r is register r; the others keep the held locks, each log in its own way
+-- the address of a slot of a bank
 abbrev pub slot_at : Log → (thread bank slot : ℕ) → ℕ
 slot_at log thread bank slot = log_of log thread + 64 + bank_bytes log * bank + 8 * slot
 

@@ -1,2 +1,4 @@
+pub mod Schemes
 pub mod Layout
 pub mod Points
+pub mod SchemeFacts

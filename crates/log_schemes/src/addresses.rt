@@ -1,4 +1,4 @@
-//! Addresses within a thread's log: the point first, and from the next line on two banks of slots.
+//! Addresses within a thread's log: the point first, and from the next line on two banks of slots. The others of a bank are said by a log's scheme.
 ghost use Rattle.std.specs.Prelude.{◌≡◌};
 ghost use Rattle.log_schemes.specs.Layout.{log_of, point_at, slot_at};
 
@@ -17,20 +17,8 @@ pub const SLOT_BYTES: u64 = 8;
 /// Slots of a line.
 pub const LINE_SLOTS: u8 = 8;
 
-/// Lines of a bank.
-pub const BANK_LINES: u8 = 4;
-
-/// The slot of the mask of held locks; slot r is register r.
-pub const MASK_SLOT: u32 = 0;
-
-/// The slot of the number of held locks, where a bank lists them.
-pub const COUNT_SLOT: u32 = 0;
-
-/// The first slot of a listed lock.
-pub const FIRST_LOCK_SLOT: u32 = 32;
-
-/// How many locks a bank lists at most.
-pub const MOST_LISTED: u64 = 16;
+/// The slot of the mask of the locks held, or of how many they are.
+pub const LOCKS_SLOT: u8 = 0;
 
 /// The address of a thread's log.
 pub fn log_of(log: Log, thread: u32) -> u64

@@ -12,7 +12,7 @@ use Rattle.machine_model.specs.Machine.{bank_of}
 use Rattle.log_states.specs.Logs.{Record, slots_of, value_of, bank_word, point_in, slot_in, IsWord, IsDurable, HasBank, IsRecorded}
 use Rattle.log_states.specs.Stages.{LogConfig, IsComing, ToStore, ToClean, Queued, IsWriting, IsPointed, Stage, Writing, Written, Pointed, PointQueued, Over}
 use Rattle.log_states.specs.Stages.{LogIs}
-use Rattle.log_states.proofs.Lists.{contains_none, contains_cases, contains_first, contains_later}
+use Rattle.log_schemes.proofs.Public.{contains_none, contains_cases, contains_first, contains_later}
 use Rattle.log_states.proofs.Heads.{no_head, not_done, same_address, same_rest}
 use Rattle.log_states.proofs.Numbers.{bank_line, bank_line_exists, slot_in_line, point_line, point_line_exists}
 use Rattle.log_states.proofs.UnstoredLogStays.{bank_below, of_slot, of_point}

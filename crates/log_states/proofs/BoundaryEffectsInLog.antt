@@ -9,14 +9,15 @@ use Rattle.machine_events.specs.declared.event.Reply.TheVariants.{Moved, Drained
 use Rattle.ido_base.specs.Words.{Entry}
 use Rattle.ido_base.specs.Layout.{variables_base, logs_base, aligned}
 use Rattle.log_schemes.specs.Layout.{log_lines, log_words, in_range, log_of, point_at, slot_at}
-use Rattle.boundary_code.specs.Boundaries.{bank_lines}
+use Rattle.log_schemes.specs.Schemes.{bank_lines}
 use Rattle.rv64_isa.specs.Rows.{Effect, Stores, Cleans, Fences, next}
 use Rattle.machine_model.specs.Machine.{Hart, World, Outcome, access, applied, fenced, drain_one, stepped, happens, bank_of, hart_step, phase_step}
-use Rattle.log_states.specs.Logs.{Record, value_of, slot_index, IsInBank}
+use Rattle.log_states.specs.Logs.{Record, value_of, IsInBank}
+use Rattle.log_schemes.specs.SchemeFacts.{slot_index}
 use Rattle.log_states.specs.Stages.{IsWriting, Stage, Writing, Written, Pointed, PointQueued, Over}
 use Rattle.log_states.specs.Machines.{is_boundary_effect, IsLogEffect, StoresWord, CleansLine, PassesFence, BoundariesStayIn, LogEffectsGo}
-use Rattle.log_states.proofs.Lists.{contains_first}
-use Rattle.log_states.proofs.Schemes.{scheme}
+use Rattle.log_schemes.proofs.Public.{contains_first}
+use Rattle.log_schemes.proofs.Public.{scheme}
 use Rattle.log_states.proofs.Heads.{head, not_done}
 use Rattle.log_states.proofs.Numbers.{line_in_bank, rows_within, some_words}
 use Rattle.log_states.proofs.UnstoredLogStays.{slot_in_bank, bank_below}

@@ -6,20 +6,23 @@ use Rattle.log_schemes.specs.declared.log.Log.{Log}
 use Rattle.log_schemes.specs.Layout.{slot_at}
 use Rattle.rv64_isa.specs.Rows.{Effect, Stores, Cleans, read}
 use Rattle.machine_model.specs.Machine.{bank_of}
-use Rattle.boundary_code.specs.Boundaries.{Boundary, is_empty, kept_locks, slots_kept, bank_lines}
+use Rattle.boundary_code.specs.Boundaries.{Boundary, is_empty, slots_kept}
+use Rattle.log_schemes.specs.Schemes.{kept_locks, bank_lines, register_slot}
 use Rattle.boundary_code.specs.Boundaries.{lines_in_use, bank_effects, commit_effects, boundary_effects, other_side}
 use Rattle.boundary_code.proofs.Public.{not_empty, some_there}
 use Rattle.log_states.specs.Logs.{Record, slots_of, value_of, IsRecord}
 use Rattle.log_states.specs.Stages.{LogConfig, stores_of, cleans_of, ToStore, IsWriting, Writing}
 use Rattle.log_states.specs.Laws.{KeptAreKeepable, recorded_by, IsRecoverable, BoundaryBegins, SideFollows, PointSays}
-use Rattle.log_states.proofs.Lists.{contains_first, contains_later, slots_in, slot_has_line, lines_of_bank, no_lines}
-use Rattle.log_states.proofs.Schemes.{scheme}
+use Rattle.log_states.proofs.Lists.{slots_in, slot_has_line, lines_of_bank, no_lines}
+use Rattle.log_schemes.proofs.Public.{contains_first, contains_later}
+use Rattle.log_schemes.proofs.Public.{scheme}
+use Rattle.log_states.proofs.KeptRecords.{lock_value, register_value}
 use Rattle.log_states.proofs.UnstoredLogStays.{slot_in_bank}
 
 -- ---- Registers that are kept
 
 pub kept_are_keepable : KeptAreKeepable
-kept_are_keepable log register kept = (scheme log).keeps.locals register kept
+kept_are_keepable log register kept = (scheme log).apart.kept register kept
 
 -- ---- The point
 
@@ -52,22 +55,22 @@ effects_of log thread r =
     stores_of log thread r (slots_of log r) ++ cleans_of log thread r (lines_in_use log (slots_of log r)) ++ commit_effects log thread r.point
 
 -- the stores of a bank, and then these effects: each slot gets its value
-module _ (at value own : ℕ → ℕ) (cleans commit : List Effect) where
-  registers_stored : (live : List ℕ) → ((r : ℕ) → Contains live r → value r ≡ own r) →
-      (map (λ r. Stores (at r) 8 (own r)) live ++ cleans) ++ commit ≡ map (λ s. Stores (at s) 8 (value s)) live ++ cleans ++ commit
+module _ (at value own slot : ℕ → ℕ) (cleans commit : List Effect) where
+  registers_stored : (live : List ℕ) → ((r : ℕ) → Contains live r → value (slot r) ≡ own r) →
+      (map (λ r. Stores (at (slot r)) 8 (own r)) live ++ cleans) ++ commit ≡ map (λ s. Stores (at s) 8 (value s)) (map slot live) ++ cleans ++ commit
   registers_stored [] same = refl
   registers_stored (r ∷ rs) same =
-      ap (λ (n : ℕ). Stores (at r) 8 n ∷ (map (λ r. Stores (at r) 8 (own r)) rs ++ cleans) ++ commit) (sym (same r (contains_first r rs)))
-      ∙ ap (λ (es : List Effect). Stores (at r) 8 (value r) ∷ es) (registers_stored rs (λ s c. same s (contains_later r rs s c)))
+      ap (λ (n : ℕ). Stores (at (slot r)) 8 n ∷ (map (λ r. Stores (at (slot r)) 8 (own r)) rs ++ cleans) ++ commit) (sym (same r (contains_first r rs)))
+      ∙ ap (λ (es : List Effect). Stores (at (slot r)) 8 (value (slot r)) ∷ es) (registers_stored rs (λ s c. same s (contains_later r rs s c)))
 
-  locks_stored : (live : List ℕ) (kept : List (ℕ × ℕ)) → ((r : ℕ) → Contains live r → value r ≡ own r) →
+  locks_stored : (live : List ℕ) (kept : List (ℕ × ℕ)) → ((r : ℕ) → Contains live r → value (slot r) ≡ own r) →
       ((one : ℕ × ℕ) → Contains kept one → value one.0 ≡ one.1) →
-      (map (λ (one : ℕ × ℕ). Stores (at one.0) 8 one.1) kept ++ map (λ r. Stores (at r) 8 (own r)) live ++ cleans) ++ commit
-      ≡ map (λ s. Stores (at s) 8 (value s)) (slots_in kept ++ live) ++ cleans ++ commit
+      (map (λ (one : ℕ × ℕ). Stores (at one.0) 8 one.1) kept ++ map (λ r. Stores (at (slot r)) 8 (own r)) live ++ cleans) ++ commit
+      ≡ map (λ s. Stores (at s) 8 (value s)) (slots_in kept ++ map slot live) ++ cleans ++ commit
   locks_stored live [] same has = registers_stored live same
   locks_stored live (first ∷ kept) same has =
-      ap (λ (n : ℕ). Stores (at first.0) 8 n ∷ (map (λ (one : ℕ × ℕ). Stores (at one.0) 8 one.1) kept ++ map (λ r. Stores (at r) 8 (own r)) live ++ cleans)
-      ++ commit)
+      ap (λ (n : ℕ). Stores (at first.0) 8 n ∷
+      (map (λ (one : ℕ × ℕ). Stores (at one.0) 8 one.1) kept ++ map (λ r. Stores (at (slot r)) 8 (own r)) live ++ cleans) ++ commit)
       (sym (has first (contains_first first kept)))
       ∙ ap (λ (es : List Effect). Stores (at first.0) 8 (value first.0) ∷ es) (locks_stored live kept same (λ one c. has one (contains_later first kept one c)))
 
@@ -83,9 +86,9 @@ banked b resume bank point x is some named =
     let slots : slots_of b.log r ≡ slots_kept b.log b.locks b.live = cond-false (eqb point 0) [] (slots_kept b.log b.locks b.live) (ne_eqb point 0 some) in
     let cleans = map (λ line. Cleans (slot_at b.log b.thread (bank_of point) (8 * line))) (lines_in_use b.log (slots_kept b.log b.locks b.live)) in
     ap (λ (k : ℕ). bank_effects b k x ++ commit_effects b.log b.thread point) (sym named)
-    ∙ locks_stored (slot_at b.log b.thread (bank_of point)) (value_of b.log r) (λ k. read x k) cleans (commit_effects b.log b.thread point) b.live
-    (kept_locks b.log b.locks) (λ k c. ((scheme b.log).keeps.registers k (is.live k c)).alone b.locks (read x k))
-    (λ one c. ((scheme b.log).keeps.locks b.locks one is.locks c).alone (read x one.0))
+    ∙ locks_stored (slot_at b.log b.thread (bank_of point)) (value_of b.log r) (λ k. read x k) (register_slot b.log) cleans
+    (commit_effects b.log b.thread point) b.live (kept_locks b.log b.locks) (λ k c. register_value b.log r is.locks is.live k c)
+    (λ one c. lock_value b.log r is.locks is.live one c)
     ∙ ap (λ (ss : List ℕ). stores_of b.log b.thread r ss ++ cleans_of b.log b.thread r (lines_in_use b.log ss) ++ commit_effects b.log b.thread point)
     (sym slots)
 

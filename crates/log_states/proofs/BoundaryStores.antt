@@ -16,7 +16,7 @@ use Rattle.log_states.specs.Logs.{Record, slots_of, value_of, log_word, bank_wor
 use Rattle.log_states.specs.Stages.{LogConfig, stores_of, cleans_of, IsComing, ToStore, ToClean, Queued}
 use Rattle.log_states.specs.Stages.{IsWriting, IsPointed, LogIs, Stage, Writing, Written, Pointed}
 use Rattle.log_states.specs.Stages.{PointQueued, Over, MayOverwrite}
-use Rattle.log_states.proofs.Lists.{contains_cases, contains_first, contains_later}
+use Rattle.log_schemes.proofs.Public.{contains_cases, contains_first, contains_later}
 use Rattle.log_states.proofs.Heads.{no_head, not_done, same_address, same_value, same_rest}
 use Rattle.log_states.proofs.Numbers.{some_words, word_exists, whole_slot, whole_point, same_slot, same_bank, slot_not_point}
 use Rattle.log_states.proofs.Words.{word_stored, word_beside, stored_word, stored_last, stored_live, stored_before}

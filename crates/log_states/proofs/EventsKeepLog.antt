@@ -11,7 +11,7 @@ use Rattle.log_states.specs.Stages.{LogConfig, stores_of, cleans_of, Stored, Cle
 use Rattle.log_states.specs.Stages.{Over, LogIs}
 use Rattle.log_states.specs.Laws.{Keeps, Rests, StaysRecorded, BoundaryEnds, StoresElsewhere}
 use Rattle.log_states.proofs.Heads.{not_done}
-use Rattle.log_states.proofs.Schemes.{nothing_is_record}
+use Rattle.log_states.proofs.KeptRecords.{nothing_is_record}
 use Rattle.log_states.proofs.Words.{word_beside}
 use Rattle.log_states.proofs.UnstoredLogStays.{log_stays, recorded_stays, stage_stays}
 use Rattle.log_states.proofs.BoundaryStores.{own_store}

@@ -7,7 +7,7 @@ use Rattle.machine_model.specs.Machine.{bank_of}
 use Rattle.log_states.specs.Logs.{Record, slots_of, bank_word, point_in, HasBank, IsRecorded}
 use Rattle.log_states.specs.Stages.{LogConfig, IsWriting, Stage, Writing, Written, Pointed, PointQueued, Over, left_by_crash}
 use Rattle.log_states.specs.LogFacts.{PointsFindBank, IsNamed, BankKept, LocksAreLeft, LogFacts}
-use Rattle.log_states.proofs.Lists.{contains_first}
+use Rattle.log_schemes.proofs.Public.{contains_first}
 use Rattle.log_states.proofs.Heads.{no_head, not_done, same_address, same_value}
 use Rattle.log_states.proofs.Numbers.{same_bank, slot_not_point}
 use Rattle.log_states.proofs.Words.{durable_is}

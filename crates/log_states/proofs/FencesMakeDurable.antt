@@ -10,7 +10,8 @@ use Rattle.ido_base.specs.Layout.{byte_number}
 use Rattle.log_schemes.specs.Layout.{slot_at}
 use Rattle.ido_base.proofs.Public.{reach_stays, stores_change, changed_refl, durable_later, higher_all}
 use Rattle.rv64_isa.specs.Rows.{Effect, Stores, Cleans, read}
-use Rattle.boundary_code.specs.Boundaries.{kept_locks, slots_kept, lines_in_use, bank_effects, commit_effects, is_empty, other_side}
+use Rattle.boundary_code.specs.Boundaries.{slots_kept, lines_in_use, bank_effects, commit_effects, is_empty, other_side}
+use Rattle.log_schemes.specs.Schemes.{kept_locks, register_slot}
 use Rattle.log_states.specs.Stages.{LogConfig, Stored, Cleaned, Fenced, Drained, Elsewhere, LogSteps, Here, Then, fences_ahead}
 use Rattle.log_states.specs.Laws.{DurableStays, AwaitsFence, ReachGoesOn, FencesSettle, BoundariesFence}
 
@@ -93,11 +94,11 @@ bank_fences : (b : Boundary) (bank : ℕ) (x : List ℕ) → fences_ahead (bank_
 bank_fences b bank x =
     let lines : List ℕ = lines_in_use b.log (slots_kept b.log b.locks b.live) in
     let locks : List Effect = map (λ (kept : ℕ × ℕ). Stores (slot_at b.log b.thread bank kept.0) 8 kept.1) (kept_locks b.log b.locks) in
-    let stores : List Effect = map (λ r. Stores (slot_at b.log b.thread bank r) 8 (read x r)) b.live in
+    let stores : List Effect = map (λ r. Stores (slot_at b.log b.thread bank (register_slot b.log r)) 8 (read x r)) b.live in
     let cleans : List Effect = map (λ line. Cleans (slot_at b.log b.thread bank (8 * line))) lines in
     let l : fences_ahead locks ≡ 0 =
     no_fences (λ (kept : ℕ × ℕ). Stores (slot_at b.log b.thread bank kept.0) 8 kept.1) (λ kept. refl) (kept_locks b.log b.locks) in
-    let s : fences_ahead stores ≡ 0 = no_fences (λ r. Stores (slot_at b.log b.thread bank r) 8 (read x r)) (λ r. refl) b.live in
+    let s : fences_ahead stores ≡ 0 = no_fences (λ r. Stores (slot_at b.log b.thread bank (register_slot b.log r)) 8 (read x r)) (λ r. refl) b.live in
     let c : fences_ahead cleans ≡ 0 = no_fences (λ line. Cleans (slot_at b.log b.thread bank (8 * line))) (λ line. refl) lines in
     fences_append (locks ++ stores) cleans ∙ omega (arith, fences_append locks stores, l, s, c)
 

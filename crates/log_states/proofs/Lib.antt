@@ -1,6 +1,6 @@
 pub mod Public
 mod Lists
-mod Schemes
+mod KeptRecords
 mod Numbers
 mod Words
 mod UnstoredLogStays

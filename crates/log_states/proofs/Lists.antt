@@ -4,21 +4,10 @@ use Rattle.std.specs.Prelude.{filter, ◌==◌}
 use Rattle.std.specs.List.{Contains, list_any}
 use Rattle.std.proofs.lemmas.Bool.{cond-true, cond_both, or_left, or_right, eq-eqb}
 use Rattle.log_schemes.specs.declared.log.Log.{Log}
-use Rattle.boundary_code.specs.Boundaries.{bank_lines, lines_in_use}
+use Rattle.boundary_code.specs.Boundaries.{lines_in_use}
+use Rattle.log_schemes.specs.Schemes.{bank_lines}
 use Rattle.log_states.specs.Logs.{IsInBank}
-
-pub contains_none : {A : Type 0} (y : A) → Contains [] y → ⊥
-contains_none y c = omega (arith, c.1)
-
-pub contains_first : {A : Type 0} (x : A) (xs : List A) → Contains (x ∷ xs) x
-contains_first x xs = (0, omega arith, refl)
-
-pub contains_later : {A : Type 0} (x : A) (xs : List A) (y : A) → Contains xs y → Contains (x ∷ xs) y
-contains_later x xs y c = (suc c.0, omega (arith, c.1), c.2)
-
-pub contains_cases : {A : Type 0} (x : A) (xs : List A) (y : A) → Contains (x ∷ xs) y → (y ≡ x) ⊎ Contains xs y
-contains_cases x xs y (zero, below, e) = inl (sym e)
-contains_cases x xs y (suc k, below, e) = inr (k, omega (arith, below), e)
+use Rattle.log_schemes.proofs.Public.{contains_none, contains_first, contains_later, contains_cases, line_there}
 
 pub contains_filter : (p : ℕ → Bool) (xs : List ℕ) (y : ℕ) → Contains xs y → p y ≡ true → Contains (filter p xs) y
 contains_filter p [] y c e = absurd (contains_none y c)
@@ -73,7 +62,7 @@ slot_listed (first ∷ kept) pair c = elim (contains_cases first kept pair c) [
 -- ---- The lines of slots
 
 pub slot_has_line : (log : Log) (slots : List ℕ) (slot : ℕ) → Contains slots slot → IsInBank log slot → Contains (lines_in_use log slots) (slot / 8)
-slot_has_line log slots slot c inside = contains_filter (λ line. list_any (λ s. s / 8 == line) slots) (bank_lines log) (slot / 8) inside
+slot_has_line log slots slot c inside = contains_filter (λ line. list_any (λ s. s / 8 == line) slots) (bank_lines log) (slot / 8) (line_there log slot inside)
     (any_of (λ s. s / 8 == slot / 8) slots slot c (eq-eqb (slot / 8) (slot / 8) refl))
 
 pub lines_of_bank : (log : Log) (slots : List ℕ) (line : ℕ) → Contains (lines_in_use log slots) line → Contains (bank_lines log) line

@@ -13,7 +13,8 @@ use Rattle.ido_base.specs.Growth.{AreEntries}
 use Rattle.rv64_isa.specs.declared.object.Slot.{Slot}
 use Rattle.machine_model.specs.declared.phase.Phase.TheVariants.{Run}
 use Rattle.rv64_isa.specs.Rows.{Effect, Continues, Loads, Stores, Cleans, Fences, Calls, next}
-use Rattle.machine_model.specs.Machine.{Hart, World, applied, hart_step, phase_step, stepped, happens, after_event, reply_to, numbers_from}
+use Rattle.machine_model.specs.Machine.{Hart, World, applied, hart_step, phase_step, stepped, happens, after_event, reply_to}
+use Rattle.log_schemes.specs.Schemes.{numbers_from}
 use Rattle.machine_model.specs.Machine.{fresh_hart, phase_after_crash, durable_point, after_crash_of, start_of}
 use Rattle.machine_model.specs.Frames.{IsWellFormedWorld}
 use Rattle.machine_model.specs.Schedule.{has_moved, effect_at}

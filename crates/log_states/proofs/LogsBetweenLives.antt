@@ -4,8 +4,8 @@ use Rattle.std.specs.Prelude.{Some}
 use Rattle.log_schemes.specs.declared.log.Log.{Log}
 use Rattle.log_states.specs.Logs.{Record, nothing_recorded, IsDurable, IsRecorded, point_in}
 use Rattle.log_states.specs.Stages.{LogConfig, LogIs, Stage, Writing, Written, Pointed, PointQueued, Over}
-use Rattle.log_states.proofs.Lists.{contains_none}
-use Rattle.log_states.proofs.Schemes.{nothing_is_record}
+use Rattle.log_schemes.proofs.Public.{contains_none}
+use Rattle.log_states.proofs.KeptRecords.{nothing_is_record}
 
 -- with no boundary under way the log has its record
 over_has : (log : Log) (thread : ℕ) (old new : Record) (m : LogConfig) → m.rest ≡ [] → Stage log thread old new m → IsRecorded log thread new m.words

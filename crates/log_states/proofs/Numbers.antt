@@ -5,9 +5,10 @@ use Rattle.std.proofs.lemmas.Bool.{cases_lt, le-ltb, lt-ltb}
 use Rattle.log_schemes.specs.declared.log.Log.{Log}
 use Rattle.ido_base.specs.Layout.{variables_base, logs_base, byte_number, word_number}
 use Rattle.log_schemes.specs.Layout.{log_lines, log_words, word_count, log_of, point_at, slot_at}
-use Rattle.boundary_code.specs.Boundaries.{bank_lines}
-use Rattle.log_states.specs.Logs.{log_word, bank_word, slot_index, IsInBank}
-use Rattle.log_states.proofs.Schemes.{scheme}
+use Rattle.log_schemes.specs.Schemes.{bank_lines}
+use Rattle.log_states.specs.Logs.{log_word, bank_word, IsInBank}
+use Rattle.log_schemes.specs.SchemeFacts.{slot_index}
+use Rattle.log_schemes.proofs.Public.{line_below, scheme}
 
 -- ---- Bytes and words
 
@@ -120,7 +121,7 @@ slot_in_line log thread bank slot line is = omega (arith, is, line_is log thread
 
 -- a line of a bank is that of its first slot
 pub line_in_bank : (log : Log) (line : ℕ) → Contains (bank_lines log) line → IsInBank log (8 * line)
-line_in_bank log line c = subst (λ (l : ℕ). Contains (bank_lines log) l) (let e : line ≡ 8 * line / 8 = omega arith in e) c
+line_in_bank log line c = let below = line_below log line c in omega (arith, below)
 
 pub bank_line_exists : (log : Log) (thread bank line : ℕ) → bank < 2 → Contains (bank_lines log) line →
     8 * bank_line log thread bank line + 8 ≤ word_count log (thread + 1)

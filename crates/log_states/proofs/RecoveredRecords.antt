@@ -12,14 +12,16 @@ use Rattle.log_schemes.specs.Layout.{log_lines, log_words, slot_at, point_at, in
 use Rattle.rv64_isa.specs.Rows.{read}
 use Rattle.machine_model.specs.Machine.{durable_point, durable_at, bank_of, record_of, recorded, resumed_registers, start_of}
 use Rattle.machine_model.proofs.Public.{starts_simulate}
-use Rattle.boundary_code.specs.Boundaries.{kept_locks, slots_kept, IsOnSide}
+use Rattle.boundary_code.specs.Boundaries.{slots_kept, IsOnSide}
+use Rattle.log_schemes.specs.Schemes.{kept_locks, register_slot}
 use Rattle.boundary_code.proofs.Public.{fresh_on_side}
 use Rattle.log_states.specs.Logs.{Record, value_of, IsRecord, log_word, IsWord, IsDurable}
-use Rattle.log_states.specs.Schemes.{HasKept}
+use Rattle.log_states.specs.BanksRead.{HasKept}
 use Rattle.log_states.specs.Stages.{LogConfig, MayOverwrite, is_committed, left_by_crash}
 use Rattle.log_states.specs.Laws.{RecordIsResumed, CrashesResume, StartsEmpty}
-use Rattle.log_states.proofs.Lists.{contains_none, slots_in, slot_listed}
-use Rattle.log_states.proofs.Schemes.{scheme, nothing_is_record}
+use Rattle.log_states.proofs.Lists.{slots_in, slot_listed}
+use Rattle.log_schemes.proofs.Public.{contains_none}
+use Rattle.log_states.proofs.KeptRecords.{banks_read, lock_value, nothing_is_record, register_value, slot_there}
 use Rattle.log_states.proofs.Numbers.{word_of_point, rows_within}
 use Rattle.log_states.proofs.BoundaryCommits.{IsLeft, left_recorded, crashes_leave}
 use Rattle.log_states.proofs.Words.{durable_is}
@@ -37,22 +39,25 @@ module _ (log : Log) (thread : ℕ) (r : Record) (words : List Word) (is : IsRec
 
   has_kept : r.point ≢ 0 → HasKept log words thread r.locks
   has_kept some one c =
-      kept one.0 some (Contains-append_left (slots_in (kept_locks log r.locks)) r.live one.0 (slot_listed (kept_locks log r.locks) one c))
-      ∙ ((scheme log).keeps.locks r.locks one is.locks c).alone (read r.registers one.0)
+      kept one.0 some (Contains-append_left (slots_in (kept_locks log r.locks)) (map (register_slot log) r.live) one.0
+      (slot_listed (kept_locks log r.locks) one c))
+      ∙ lock_value log r is.locks is.live one c
 
   pub left_locks : record_of log words thread ≡ cond (eqb r.point 0) [] r.locks
   left_locks = elim (cases_eq r.point 0) [
     | inl none ↦ cond-true (eqb (durable_point log words thread) 0) [] _ (eq-eqb (durable_point log words thread) 0 (h.point ∙ none))
         ∙ sym (cond-true (eqb r.point 0) [] r.locks (eq-eqb r.point 0 none))
-    | inr some ↦ (scheme log).reads.locks words thread r.locks is.locks (λ none. some (sym h.point ∙ none)) (has_kept some)
+    | inr some ↦ (banks_read log).locks words thread r.locks is.locks (λ none. some (sym h.point ∙ none)) (has_kept some)
         ∙ sym (cond-false (eqb r.point 0) [] r.locks (ne_eqb r.point 0 some))
   ]
 
   register : r.point ≢ 0 → (slot : ℕ) → Contains r.live slot → read (resumed_registers log words thread) slot ≡ read r.registers slot
   register some slot c =
       let keepable = is.live slot c in
-      (scheme log).reads.registers words thread slot keepable ∙ kept slot some (Contains-append_right (slots_in (kept_locks log r.locks)) r.live slot c)
-      ∙ ((scheme log).keeps.registers slot keepable).alone r.locks (read r.registers slot)
+      (banks_read log).registers words thread slot keepable
+      ∙ kept (register_slot log slot) some (Contains-append_right (slots_in (kept_locks log r.locks)) (map (register_slot log) r.live) (register_slot log slot)
+      (slot_there log r.live slot c))
+      ∙ register_value log r is.locks is.live slot c
 
 pub record_is_resumed : RecordIsResumed
 record_is_resumed log thread r words is h =
@@ -64,7 +69,7 @@ record_is_resumed log thread r words is h =
       kept = has_kept log thread r words is left;
       registers = λ some slot c. register log thread r words is left some slot c;
       side = record {
-        registers = subst (λ (point : ℕ). IsOnSide log (bank_of point) (resumed_registers log words thread)) left.point ((scheme log).reads.side words thread);
+        registers = subst (λ (point : ℕ). IsOnSide log (bank_of point) (resumed_registers log words thread)) left.point ((banks_read log).side words thread);
         is = λ some. refl;
       };
     }

@@ -1,5 +1,5 @@
 -- Whatever leaves a log unstored keeps it: words are persisted, and what is queued still reaches as far.
-use Rattle.std.proofs.Common.{◌≡◌, ◌≢◌, ◌⊎◌, inl, inr, ℕ, ◌^◌, ◌<◌, List, [], length, arith, ap, sym, ◌∙◌, subst, add-zero, cond, eqb}
+use Rattle.std.proofs.Common.{◌≡◌, ◌≢◌, ◌⊎◌, inl, inr, ℕ, ◌^◌, ◌<◌, List, [], map, length, arith, ap, sym, ◌∙◌, subst, add-zero, cond, eqb}
 use Rattle.std.proofs.lemmas.Bool.{cond_both}
 use Rattle.std.proofs.lemmas.List.Elements.{Contains-append_cases}
 use Rattle.std.specs.List.{Contains}
@@ -11,25 +11,29 @@ use Rattle.log_schemes.specs.Layout.{log_words, point_at}
 use Rattle.ido_base.proofs.Public.{same_last}
 use Rattle.rv64_isa.specs.Rows.{read}
 use Rattle.machine_model.specs.Machine.{bank_of}
-use Rattle.boundary_code.specs.Boundaries.{kept_locks, slots_kept}
-use Rattle.log_states.specs.Logs.{Record, slots_of, value_of, kept_in, slot_index, IsInBank, IsRecord, log_word, bank_word, point_in, slot_in, HasLog}
+use Rattle.boundary_code.specs.Boundaries.{slots_kept}
+use Rattle.log_schemes.specs.Schemes.{kept_locks, register_slot}
+use Rattle.log_states.specs.Logs.{Record, slots_of, value_of, IsInBank, IsRecord, log_word, bank_word, point_in, slot_in, HasLog}
+use Rattle.log_schemes.specs.SchemeFacts.{slot_index}
 use Rattle.log_states.specs.Logs.{IsUnstored, HasBank, IsRecorded}
 use Rattle.log_states.specs.Stages.{LogConfig, IsComing, ToStore, ToClean, Queued, IsPointed, Stage, Writing, Written, Pointed, PointQueued, Over, MayOverwrite}
-use Rattle.log_states.proofs.Lists.{contains_none, slots_in, HasSlot, has_slot}
-use Rattle.log_states.proofs.Schemes.{scheme}
+use Rattle.log_states.proofs.Lists.{slots_in, HasSlot, has_slot}
+use Rattle.log_schemes.proofs.Public.{contains_none}
+use Rattle.log_schemes.proofs.Public.{locks_kept, scheme}
+use Rattle.log_states.proofs.KeptRecords.{HasRegister, has_register, lock_value, register_value}
 use Rattle.log_states.proofs.Numbers.{slot_in_log, some_words}
 use Rattle.log_states.proofs.Words.{persisted_live, persisted_at, persisted_word, persisted_durable}
 
 -- ---- Slots of a record
 
 -- a slot keeps locks, or a register
-pub slot_cases : (log : Log) (r : Record) (slot : ℕ) → Contains (slots_of log r) slot → HasSlot (kept_locks log r.locks) slot ⊎ Contains r.live slot
+pub slot_cases : (log : Log) (r : Record) (slot : ℕ) → Contains (slots_of log r) slot → HasSlot (kept_locks log r.locks) slot ⊎ HasRegister log r.live slot
 slot_cases log r slot = cond_both (eqb r.point 0) [] (slots_kept log r.locks r.live)
-    (λ slots. Contains slots slot → HasSlot (kept_locks log r.locks) slot ⊎ Contains r.live slot)
+    (λ slots. Contains slots slot → HasSlot (kept_locks log r.locks) slot ⊎ HasRegister log r.live slot)
     (λ _ c. absurd (contains_none slot c))
-    (λ _ c. elim (Contains-append_cases (slots_in (kept_locks log r.locks)) r.live slot c) [
+    (λ _ c. elim (Contains-append_cases (slots_in (kept_locks log r.locks)) (map (register_slot log) r.live) slot c) [
       | inl locks ↦ inl (has_slot (kept_locks log r.locks) slot locks)
-      | inr live ↦ inr live
+      | inr live ↦ inr (has_register log r.live slot live)
     ])
 
 pub has_point : (log : Log) (r : Record) (slot : ℕ) → Contains (slots_of log r) slot → r.point ≢ 0
@@ -41,21 +45,21 @@ bank_below point = omega arith
 module _ (log : Log) (r : Record) (slot : ℕ) (is : IsRecord log r) (c : Contains (slots_of log r) slot) where
   pub slot_in_bank : IsInBank log slot
   slot_in_bank = elim (slot_cases log r slot c) [
-    | inl h ↦ subst (IsInBank log) (sym h.is) ((scheme log).keeps.locks r.locks h.pair is.locks h.own).slot
-    | inr live ↦ ((scheme log).keeps.registers slot (is.live slot live)).slot
+    | inl h ↦ subst (IsInBank log) (sym h.is) ((locks_kept log).each r.locks h.pair is.locks h.own).slot
+    | inr h ↦ subst (IsInBank log) (sym h.is) ((scheme log).apart.register h.register (is.live h.register h.own)).exists
   ]
 
   pub value_below : value_of log r slot < 2 ^ 64
   value_below = elim (slot_cases log r slot c) [
     | inl h ↦
-        let keeps = (scheme log).keeps.locks r.locks h.pair is.locks h.own in
-        let has : value_of log r slot ≡ h.pair.1 =
-        ap (λ (s : ℕ). kept_in (kept_locks log r.locks) s (read r.registers slot)) h.is ∙ keeps.alone (read r.registers slot) in
-        omega (arith, has, keeps.value)
-    | inr live ↦
-        let has : value_of log r slot ≡ read r.registers slot =
-        ((scheme log).keeps.registers slot (is.live slot live)).alone r.locks (read r.registers slot) in
-        omega (arith, has, is.registers slot live)
+        let small = ((locks_kept log).each r.locks h.pair is.locks h.own).value in
+        let has : value_of log r slot ≡ h.pair.1 = ap (λ (s : ℕ). value_of log r s) h.is ∙ lock_value log r is.locks is.live h.pair h.own in
+        omega (arith, has, small)
+    | inr h ↦
+        let small = is.registers h.register h.own in
+        let has : value_of log r slot ≡ read r.registers h.register =
+        ap (λ (s : ℕ). value_of log r s) h.is ∙ register_value log r is.locks is.live h.register h.own in
+        omega (arith, has, small)
   ]
 
   -- a slot of a record's bank is a word of the log

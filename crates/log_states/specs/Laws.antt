@@ -13,9 +13,10 @@ use Rattle.machine_model.specs.Machine.{durable_point, live_at, resume_of, recor
 use Rattle.machine_model.specs.Schedule.{is_point_store}
 use Rattle.memory_layout.specs.Roles.{is_kept}
 use Rattle.boundary_code.specs.Boundaries.{Boundary, boundary_effects, is_empty, IsOnSide, other_side, side_after}
-use Rattle.log_states.specs.Logs.{Record, nothing_recorded, side_of, IsSideOf, IsKeepable, AreLoggable, IsRecord, log_word}
-use Rattle.log_states.specs.Logs.{bank_word, slot_index, point_in, HasLog, IsUnstored, IsDurable, IsRecorded}
-use Rattle.log_states.specs.Schemes.{HasKept}
+use Rattle.log_states.specs.Logs.{Record, nothing_recorded, side_of, IsSideOf, IsKeepable, IsRecord, log_word}
+use Rattle.log_schemes.specs.SchemeFacts.{AreLoggable, slot_index}
+use Rattle.log_states.specs.Logs.{bank_word, point_in, HasLog, IsUnstored, IsDurable, IsRecorded}
+use Rattle.log_states.specs.BanksRead.{HasKept}
 use Rattle.log_states.specs.Stages.{LogConfig, Moves, LogSteps, LogIs, fences_ahead, is_store, is_committed, left_by_crash}
 
 -- ---- Boundaries

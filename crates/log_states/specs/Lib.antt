@@ -1,5 +1,5 @@
 pub mod Logs
-pub mod Schemes
+pub mod BanksRead
 pub mod Stages
 pub mod Machines
 pub mod Laws

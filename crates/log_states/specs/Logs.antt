@@ -1,16 +1,16 @@
 -- What a thread's log has recorded: the point of its last boundary, and what the point's bank keeps, but where the point is 0.
-use Rattle.std.specs.Prelude.{◌≡◌, ◌≢◌, ℕ, ◌+◌, ◌*◌, ◌/◌, ◌^◌, ◌<◌, ◌≤◌, List, [], ◌∷◌, length, slice_index, ◌==◌, if◌then◌else◌}
+use Rattle.std.specs.Prelude.{◌≡◌, ◌≢◌, ℕ, ◌+◌, ◌^◌, ◌<◌, ◌≤◌, List, [], ◌∷◌, ◌++◌, map, length, slice_index, true, ◌==◌, if◌then◌else◌}
 use Rattle.std.specs.List.{Contains}
 use Rattle.log_schemes.specs.declared.log.Log.{Log}
-use Rattle.log_schemes.specs.declared.log.Log.TheVariants.{V1, V2}
 use Rattle.ido_base.specs.Words.{Word, word_at, last_position, live_value}
 use Rattle.ido_base.specs.Growth.{IsPersisted}
 use Rattle.ido_base.specs.Layout.{word_number}
-use Rattle.log_schemes.specs.Layout.{bank_bytes, log_words, word_count, point_at, slot_at}
+use Rattle.log_schemes.specs.Layout.{log_words, word_count, point_at, slot_at}
 use Rattle.rv64_isa.specs.Rows.{read}
 use Rattle.machine_model.specs.Machine.{bank_of}
-use Rattle.memory_layout.specs.Roles.{bank_offset}
-use Rattle.boundary_code.specs.Boundaries.{AreOfMask, bank_lines, kept_locks, slots_kept}
+use Rattle.boundary_code.specs.Boundaries.{slots_kept}
+use Rattle.log_schemes.specs.SchemeFacts.{AreLoggable}
+use Rattle.log_schemes.specs.Schemes.{bank_slots, keeps_register, kept_locks, register_slot}
 
 -- what a boundary writes
 pub record Record : Type 0 where
@@ -36,44 +36,31 @@ IsSideOf r side = r.point ≢ 0 → side_of r ≡ side
 
 -- ---- What a bank keeps
 
--- the slots that a record needs: those of its locks, and slot r for register r
+-- the pairs of a slot and a value: those of the locks, and each live register's
+abbrev pub kept_of : Log → Record → List (ℕ × ℕ)
+kept_of log r = kept_locks log r.locks ++ map (λ register. (register_slot log register, read r.registers register)) r.live
+
+-- the slots that a record needs
 abbrev pub slots_of : Log → Record → List ℕ
 slots_of log r = if r.point == 0 then [] else slots_kept log r.locks r.live
 
--- the value that these slots have at one of them, and this one at any other
-abbrev pub kept_in : (kept : List (ℕ × ℕ)) → (slot other : ℕ) → ℕ
-kept_in [] slot other = other
-kept_in (first ∷ kept) slot other = if slot == first.0 then first.1 else kept_in kept slot other
+-- the value that a slot has by these pairs
+abbrev pub kept_in : (kept : List (ℕ × ℕ)) → (slot : ℕ) → ℕ
+kept_in [] slot = 0
+kept_in (first ∷ kept) slot = if slot == first.0 then first.1 else kept_in kept slot
 
 abbrev pub value_of : Log → Record → (slot : ℕ) → ℕ
-value_of log r slot = kept_in (kept_locks log r.locks) slot (read r.registers slot)
+value_of log r slot = kept_in (kept_of log r) slot
 
 -- a slot of a bank: all words of the bank's lines are
 abbrev pub IsInBank : Log → (slot : ℕ) → Type 0
-IsInBank log slot = Contains (bank_lines log) (slot / 8)
+IsInBank log slot = slot < bank_slots log
 
 -- ---- Which records a log can hold
 
--- the locks are a list of few numbers of 64 bits
-pub record AreListed (locks : List ℕ) : Type 0 where
-  pub few : length locks ≤ 16
-  pub fit : (lock : ℕ) → Contains locks lock → lock < 2 ^ 64
-
--- one of 32 registers, but not x0, in whose slot no register is kept, nor that of the bank offset, which the point gives
-pub record HasOwnSlot (register : ℕ) : Type 0 where
-  pub is_register : 0 < register
-  pub exists : register < 32
-  pub not_offset : register ≢ bank_offset
-
--- a bank can keep these locks
-abbrev pub AreLoggable : Log → (locks : List ℕ) → Type 0
-AreLoggable V1 locks = AreOfMask locks
-AreLoggable V2 locks = AreListed locks
-
 -- a bank can keep this register
 abbrev pub IsKeepable : Log → (register : ℕ) → Type 0
-IsKeepable V1 register = HasOwnSlot register
-IsKeepable V2 register = HasOwnSlot register
+IsKeepable log register = keeps_register log register ≡ true
 
 -- values of 64 bits, of locks and registers that the log can hold
 pub record IsRecord (log : Log) (r : Record) : Type 0 where
@@ -90,10 +77,6 @@ log_word log thread i = word_number (point_at log thread) + i
 
 abbrev pub bank_word : (log : Log) (thread bank slot : ℕ) → ℕ
 bank_word log thread bank slot = word_number (slot_at log thread bank slot)
-
--- how many words a slot lies after the point
-abbrev pub slot_index : Log → (bank slot : ℕ) → ℕ
-slot_index log bank slot = 8 + bank_bytes log / 8 * bank + slot
 
 -- the word of the point
 abbrev pub point_in : Log → List Word → (thread : ℕ) → Word

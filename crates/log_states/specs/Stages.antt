@@ -8,7 +8,8 @@ use Rattle.ido_base.specs.Layout.{line_bytes, byte_number, word_number}
 use Rattle.log_schemes.specs.Layout.{point_at, slot_at}
 use Rattle.rv64_isa.specs.Rows.{Effect, Continues, Loads, Stores, Cleans, Fences, Calls}
 use Rattle.machine_model.specs.Machine.{bank_of}
-use Rattle.boundary_code.specs.Boundaries.{bank_lines, commit_effects}
+use Rattle.boundary_code.specs.Boundaries.{commit_effects}
+use Rattle.log_schemes.specs.Schemes.{bank_lines}
 use Rattle.log_states.specs.Logs.{Record, slots_of, value_of, bank_word, point_in, slot_in, IsRecord, HasLog, IsUnstored, HasBank, IsRecorded}
 
 -- memory, what the thread's hart has queued, and what its boundary has still to do: nothing between boundaries

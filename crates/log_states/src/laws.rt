@@ -7,7 +7,7 @@ ghost use Rattle.log_states.specs.Laws.{Rests, SlotsAreIn, StartsEmpty, StaysCom
 ghost use Rattle.log_states.specs.Machines.{BoundariesStayIn, CrashesCrash, EvictionsMove, LogEffectsGo, OwnStepsMove};
 ghost use Rattle.log_states.specs.Machines.{StepsMove, StoresNothing, StoresToOtherLog, StoresToVariable};
 ghost use Rattle.log_states.specs.LogFacts.{LogFacts};
-ghost use Rattle.log_states.specs.Schemes.{SchemesHold};
+ghost use Rattle.log_states.specs.BanksRead.{AllBanksAreRead};
 ghost use Rattle.log_states.specs.LogInvariant.{BeginsStanding, CrashesStanding, EvictionsKeep, OwnStepsKeep, StartsStanding, StepsKeep};
 
 /// A log on its way from one record to the next: a boundary begins from any record, whose bank it leaves alone; every event
@@ -88,10 +88,9 @@ pub fn steps_apart()
     ensures boundary { StoresToOtherLog }
 {}
 
-/// What each log owes of its scheme, by cases on the log: its slots are words of their own, they keep what is to be kept, and the machine reads that back.
-/// All other laws follow from it.
-pub fn schemes_hold()
-    ensures { SchemesHold }
+/// The machine reads back what a bank keeps: the locks, and each register from its slot.
+pub fn banks_are_read()
+    ensures { AllBanksAreRead }
 {}
 
 /// What recovery rests on: a bank is durable before a point names it, and is kept as long as one does; what was kept in registers is resumed; and the

@@ -1,5 +1,5 @@
 //! What the layers above a machine ask of it.
-ghost use Rattle.std.specs.Prelude.{◌≡◌, ◌↔◌, ◌+◌, ◌<◌, ◌≤◌, ◌++◌, ◌∷◌, [], ℕ, List, length, replicate, IfOk, MatchBool};
+ghost use Rattle.std.specs.Prelude.{◌≡◌, ◌↔◌, ◌+◌, ◌<◌, ◌≤◌, ◌++◌, ◌∷◌, [], ℕ, List, length, replicate, IfOk, IsTrue, Bool, MatchBool};
 ghost use Rattle.machine_events.specs.declared.event.Event.{Event};
 ghost use Rattle.machine_events.specs.declared.event.Event.TheVariants.{Step};
 ghost use Rattle.machine_events.specs.Cores.{IsValid, IsValidNow, Behaviour, played, point_stores, finished_fences, least_enabled, EachMoves};
@@ -90,20 +90,28 @@ pub trait Core {
     /// How many steps it is ahead of the hart as it was at its beginning.
     ghost ahead_by: { Self.Local → ℕ };
 
+    /// It can make one more step: the next one touches its hart alone.
+    ghost goes_ahead: { Self.Local → Bool };
+
+    /// This hart of the core still stands where it began, or again.
+    ghost is_at_beginning: { Self → ℕ → Self.Local → Type 0 };
+
     /// Begins at the hart as it is now.
     fn local(&self, alloc: Global, hart: u32) -> Result<Self::Local, OutOfMemory>
         requires { hart < hart_count self.now }
-        ensures { IfOk result (λ local. is_local (opening self.now) hart local × (ahead_by local ≡ 0)) };
+        ensures { IfOk result (λ local. is_local (opening self.now) hart local × (ahead_by local ≡ 0) × is_at_beginning self.now hart local) };
 
     /// Begins again, at the hart as it is now. It takes no memory.
     fn refresh(&self, hart: u32, local: &mut Self::Local)
         requires exists { hart < hart_count self.now }
         requires own { is_local (opening self.now) hart local.old }
-        ensures { is_local (opening self.now) hart local.new × (ahead_by local.new ≡ 0) };
+        ensures { is_local (opening self.now) hart local.new × (ahead_by local.new ≡ 0) × is_at_beginning self.now hart local.new };
 
-    /// Makes one more step, where the next one touches its hart alone; else nothing changes.
+    /// Makes one more step, where it can; else nothing changes.
     fn ahead(local: &mut Self::Local) -> bool
+        ensures result { result ≡ goes_ahead local.old }
         ensures stays { (m : Meaning) (hart : ℕ) → is_local m hart local.old → is_local m hart local.new }
+        ensures beginning { (core : Self) (hart : ℕ) → is_at_beginning core hart local.new ↔ is_at_beginning core hart local.old }
         ensures made { MatchBool result (ahead_by local.new ≡ ahead_by local.old + 1) (local.new ≡ local.old) };
 
     /// Makes the steps by which the local is ahead, where the hart still stands at its beginning; else nothing changes.
@@ -112,7 +120,8 @@ pub trait Core {
         requires exists { hart < hart_count self.old }
         requires own { is_local (opening self.old) hart local.now }
         requires room { ahead_by local.now ≤ space self.old }
-        ensures { MatchBool result
+        ensures result { IsTrue result ↔ is_at_beginning self.old hart local.now }
+        ensures made { MatchBool result
             ((opening self.new ≡ opening self.old) × (history self.new ≡ history self.old ++ replicate (ahead_by local.now) (Step hart))
             × (hart_count self.new ≡ hart_count self.old) × (space self.new + ahead_by local.now ≡ space self.old)
             × EachMoves behaviour (opening self.old) (history self.old) hart (ahead_by local.now)

@@ -9,7 +9,8 @@ use Rattle.ido_base.specs.Layout.{word_number}
 use Rattle.log_schemes.specs.Layout.{point_at}
 use Rattle.rv64_isa.specs.declared.object.Slot.{Slot}
 use Rattle.machine_model.specs.Machine.{World, after_event}
-use Rattle.machine_model.specs.Schedule.{HaveNoStart, Steps, passes_mark, stores_point, with_begun, with_bound, with_all_kept, with_step, begins_life, next_life}
+use Rattle.machine_model.specs.Schedule.{HaveNoStart, Steps, passes_mark, stores_point, with_begun}
+use Rattle.machine_model.specs.Schedule.{with_bound, with_all_kept, with_step, begins_life, next_life}
 use Rattle.machine_model.specs.Schedule.{steps_after, steps_along}
 
 pub all_kept_earlier : (log : Log) (words : List Word) (count : ℕ) (s : Steps) → (with_all_kept log words count s).earlier ≡ s.earlier

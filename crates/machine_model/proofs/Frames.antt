@@ -1,11 +1,10 @@
 -- What a step touches, effect by effect.
-use Rattle.std.proofs.Common.{◌≡◌, ◌≢◌, ◌⊎◌, inl, inr, ℕ, zero, suc, ◌+◌, ◌-◌, ◌*◌, ◌/◌, ◌%◌, ◌<◌, ◌≤◌, List, [], ◌∷◌, ◌++◌, length, map}
-use Rattle.std.proofs.Common.{replicate, refl, ap, arith, sym, ◌∙◌, subst, set, cond, Bool, true, false, Option, Some, None, take, drop}
-use Rattle.std.specs.Prelude.{slice_get, nat_lt, nat_le, ◌==◌, ◌&&◌, ◌||◌, not}
-use Rattle.std.proofs.lemmas.Bool.{cases_lt, cases_eq, cond_both, and_parts, ltb-true, eqb-true, ltb-false, leb-true, or_cases}
+use Rattle.std.proofs.Common.{◌≡◌, ◌≢◌, ◌⊎◌, inl, inr, ℕ, zero, suc, ◌+◌, ◌-◌, ◌*◌, ◌/◌, ◌≤◌, List, [], ◌∷◌, length, map}
+use Rattle.std.proofs.Common.{replicate, refl, ap, arith, sym, ◌∙◌, subst, set, cond, Bool, true, false, Option, Some, None, drop}
+use Rattle.std.specs.Prelude.{slice_get, nat_lt, nat_le, ◌==◌, ◌&&◌}
+use Rattle.std.proofs.lemmas.Bool.{cases_eq, cond_both, and_parts, ltb-true, eqb-true, ltb-false, leb-true, or_cases}
 use Rattle.std.proofs.Math.ListN.{length-set, length-append}
-use Rattle.std.proofs.lemmas.List.{length-map, length-replicate, set_past}
-use Rattle.machine_events.specs.declared.event.Event.{Event}
+use Rattle.std.proofs.lemmas.List.{length-map, length-replicate}
 use Rattle.log_schemes.specs.declared.log.Log.{Log}
 use Rattle.log_schemes.specs.declared.log.Log.TheVariants.{V1, V2}
 use Rattle.machine_events.specs.declared.event.Event.TheVariants.{Step, Evict, Crash, Start}
@@ -14,18 +13,20 @@ use Rattle.ido_base.specs.Words.{Word, Entry, entry_of, stored, drained, evicted
 use Rattle.ido_base.specs.Locks.{is_held_by, least_held, least_missing}
 use Rattle.ido_base.specs.Layout.{aligned, byte_number, words_of_bytes, variables_base, logs_base}
 use Rattle.log_schemes.specs.Layout.{in_range, word_count, initial_words}
-use Rattle.ido_base.specs.Growth.{AreChanged, ArePersisted, IsEntry, AreEntries}
+use Rattle.ido_base.specs.Growth.{AreChanged, AreEntries}
 use Rattle.ido_base.proofs.Public.{changed_refl, changed_by_persisted, stores_change, evictions_raise, write_backs_raise, entries_stay, entries_append}
-use Rattle.ido_base.proofs.Public.{clean_entry, are_persisted_refl}
+use Rattle.ido_base.proofs.Public.{clean_entry}
 use Rattle.rv64_isa.specs.declared.object.Slot.{Slot}
 use Rattle.rv64_isa.specs.declared.object.Slot.TheVariants.{Row, NoRow}
 use Rattle.machine_model.specs.declared.phase.Phase.{Phase}
 use Rattle.machine_model.specs.declared.phase.Phase.TheVariants.{Take, Wait, Resume, Run, Done, Ended}
 use Rattle.rv64_isa.specs.Rows.{Effect, Continues, Loads, Stores, Cleans, Fences, Calls, row, read, next}
 use Rattle.rv64_isa.specs.Programs.{fetched}
-use Rattle.machine_model.specs.Machine.{Hart, World, Outcome, moved, with_hart, with_holder, drain_one, access, cleaned, fenced, acquired, released, ended, called}
+use Rattle.machine_model.specs.Machine.{Hart, World, Outcome, moved, with_hart, with_holder, drain_one}
+use Rattle.machine_model.specs.Machine.{access, cleaned, fenced, acquired, released, ended, called}
 use Rattle.machine_model.specs.Machine.{applied, executed, hart_step, taken, waited, taking_from, record_of, over_after, done_if_over, run_step, phase_step}
-use Rattle.machine_model.specs.Machine.{stepped, happens, after_event, durable_point, phase_after_crash, start_of, after_crash_of, fresh_hart, numbers_from}
+use Rattle.machine_model.specs.Machine.{stepped, happens, after_event, durable_point, phase_after_crash, start_of, after_crash_of, fresh_hart}
+use Rattle.log_schemes.specs.Schemes.{numbers_from}
 use Rattle.machine_model.specs.Frames.{IsHeldOn, Stays, Takes, Gives, Touches, IsWellFormedWorld, StepsTouch}
 use Rattle.machine_model.proofs.StartedWorlds.{after_start, start_sound}
 use Rattle.machine_model.specs.Frames.{EvictionsTouch, LogStays, QueuesStand, StartsStand, CrashesStand}

@@ -4,3 +4,4 @@ mod WorkedRuns
 mod StartedWorlds
 mod Frames
 mod EarlierLives
+mod ResumedRegisters

@@ -12,7 +12,7 @@ use Rattle.rv64_isa.specs.declared.object.Slot.{Slot}
 use Rattle.rv64_isa.specs.declared.object.Slot.TheVariants.{Row}
 use Rattle.rv64_isa.specs.Arithmetic.{result_of}
 use Rattle.rv64_isa.specs.Rows.{row}
-use Rattle.machine_model.specs.Machine.{World, start_of, after_events, happens, after_crash_of}
+use Rattle.machine_model.specs.Machine.{World, start_of, after_events, happens, after_crash_of, resumed_registers}
 
 -- x5 := 0x10000000; x6 := 7; stored, cleaned, fenced
 code : List Slot
@@ -38,5 +38,5 @@ unfolding initial_words start_of happens row result_of after code
 durable_by_eviction = refl
 
 lost_by_crash : live_value (word_at (after (replicate 4 (Step 0) ++ Crash ∷ [])).words 0) ≡ 5
-unfolding initial_words start_of happens row result_of after code after_crash_of
+unfolding initial_words start_of happens row result_of after code after_crash_of resumed_registers
 lost_by_crash = refl

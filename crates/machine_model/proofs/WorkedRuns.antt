@@ -3,8 +3,7 @@ use Rattle.std.proofs.Common.{◌≡◌, ℕ, zero, suc, ◌+◌, ◌-◌, ◌*�
 use Rattle.machine_events.specs.declared.event.Event.{Event}
 use Rattle.log_schemes.specs.declared.log.Log.TheVariants.{V1}
 use Rattle.machine_events.specs.declared.event.Event.TheVariants.{Step, Evict, Crash, Start}
-use Rattle.machine_events.specs.declared.event.Reply.{Reply}
-use Rattle.machine_events.specs.declared.event.Reply.TheVariants.{Moved, Barrier, Still, Device}
+use Rattle.machine_events.specs.declared.event.Reply.TheVariants.{Barrier, Still}
 use Rattle.ido_base.specs.Words.{word_at, durable_value, live_value}
 use Rattle.ido_base.specs.Layout.{spread_words}
 use Rattle.log_schemes.specs.Layout.{initial_words}
@@ -20,7 +19,7 @@ use Rattle.rv64_isa.specs.declared.object.Slot.{Slot}
 use Rattle.rv64_isa.specs.declared.object.Slot.TheVariants.{Row}
 use Rattle.rv64_isa.specs.Arithmetic.{result_of}
 use Rattle.rv64_isa.specs.Rows.{row}
-use Rattle.machine_model.specs.Machine.{World, is_settled, can_start, start_of, after_event, after_events, reply_to, happens, after_crash_of}
+use Rattle.machine_model.specs.Machine.{World, is_settled, can_start, start_of, after_event, after_events, reply_to, happens, after_crash_of, resumed_registers}
 use Rattle.machine_model.specs.Schedule.{Steps, schedules, steps_after, first_steps, only_life, stores_point, finishes_fence, released_count}
 
 -- ---- The code of the nodes
@@ -199,7 +198,8 @@ lives_after_crashes :
     (many p1 p1_marks 80 (Step 0) (make p1 p1_marks Crash (make p1 p1_marks (Evict 1024 1) (to_point p1 p1_marks 100 0 p1_start)))))))))
     ≡ record { x = 7; now = 7; lives = (0 ∷ 0 ∷ 0 ∷ 0 ∷ []) ∷ [] ∷ (0 ∷ 0 ∷ 0 ∷ 0 ∷ []) ∷ []; may = true }
 unfolding told_lives to_point many make p1_start p1_marks p1 programs marks_from marks_of one_section node node_acquire node_store code_of acquire add store
-    release last_release end boundary log point move start_of after_crash_of locks_in initial_words spread_words happens row result_of steps_after
+    release last_release end boundary log point move start_of after_crash_of resumed_registers locks_in initial_words spread_words happens row
+    result_of steps_after
 lives_after_crashes = refl
 
 -- in the middle of a life a start changes nothing
@@ -211,14 +211,14 @@ none_begins = refl
 -- up to the first point's store, and a crash: the point was lost
 point_lost : told (make p1 p1_marks Crash (to_point p1 p1_marks 100 0 p1_start)) ≡ record { x = 5; y = 0; kept = []; settled = true }
 unfolding told to_point make p1_start p1_marks p1 programs marks_from marks_of one_section node node_acquire node_store code_of acquire add store release
-    last_release end boundary log point move start_of after_crash_of locks_in initial_words spread_words happens row result_of steps_after
+    last_release end boundary log point move start_of after_crash_of resumed_registers locks_in initial_words spread_words happens row result_of steps_after
 point_lost = refl
 
 -- up to the first point's store, an eviction of the point's word, and a crash: the point was kept
 point_evicted : told (many p1 p1_marks 80 (Step 0) (make p1 p1_marks Crash (make p1 p1_marks (Evict 1024 1) (to_point p1 p1_marks 100 0 p1_start))))
     ≡ record { x = 6; y = 0; kept = 0 ∷ 0 ∷ 0 ∷ 0 ∷ []; settled = true }
 unfolding told to_point many make p1_start p1_marks p1 programs marks_from marks_of one_section node node_acquire node_store code_of acquire add store release
-    last_release end boundary log point move start_of after_crash_of locks_in initial_words spread_words happens row result_of steps_after
+    last_release end boundary log point move start_of after_crash_of resumed_registers locks_in initial_words spread_words happens row result_of steps_after
 point_evicted = refl
 
 -- up to the last point's store: x is durable, its point isn't given up
@@ -227,7 +227,8 @@ three_points = to_point p1 p1_marks 100 0 (to_point p1 p1_marks 100 0 (to_point 
 
 store_again : told (many p1 p1_marks 80 (Step 0) (make p1 p1_marks Crash three_points)) ≡ record { x = 6; y = 0; kept = 0 ∷ 0 ∷ 0 ∷ 0 ∷ []; settled = true }
 unfolding three_points told to_point many make p1_start p1_marks p1 programs marks_from marks_of one_section node node_acquire node_store code_of acquire add
-    store release last_release end boundary log point move start_of after_crash_of locks_in initial_words spread_words happens row result_of steps_after
+    store release last_release end boundary log point move start_of after_crash_of resumed_registers locks_in initial_words spread_words happens row
+    result_of steps_after
 store_again = refl
 
 -- crashes in each phase of recovery, and after it
@@ -238,7 +239,7 @@ crash_after (suc count) steps r = crash_after count (steps + 1) (many p1 p1_mark
 
 crashes_in_recovery : told (many p1 p1_marks 80 (Step 0) (crash_after 12 1 three_points)) ≡ record { x = 6; y = 0; kept = 0 ∷ 0 ∷ 0 ∷ 0 ∷ []; settled = true }
 unfolding crash_after three_points told to_point many make p1_start p1_marks p1 programs marks_from marks_of one_section node node_acquire node_store code_of
-    acquire add store release last_release end boundary log point move start_of after_crash_of locks_in
+    acquire add store release last_release end boundary log point move start_of after_crash_of resumed_registers locks_in
     initial_words spread_words happens row result_of steps_after
 crashes_in_recovery = refl
 
@@ -263,7 +264,7 @@ second_waits : told (many pair pair_marks 80 (Step 0) (many pair pair_marks 8 (S
     (to_fences pair pair_marks 100 2 0 (record { world = start_of V1 pair 1 (5 ∷ []); steps = first_steps 2 (only_life []) }))))))
     ≡ record { x = 6; y = 0; kept = 0 ∷ 0 ∷ 0 ∷ 0 ∷ []; settled = true }
 unfolding told to_fences many make pair_marks pair programs marks_from marks_of one_section node node_acquire node_store code_of acquire add store release
-    last_release end boundary log point move start_of after_crash_of locks_in initial_words spread_words happens row result_of steps_after
+    last_release end boundary log point move start_of after_crash_of resumed_registers locks_in initial_words spread_words happens row result_of steps_after
 second_waits = refl
 
 -- all six fences of the section are finished and its ECALL isn't reached: the lock is still held, and a crash loses nothing
@@ -277,7 +278,8 @@ still_held = refl
 
 released_durably : told (make p1 p1_marks Crash six_fences) ≡ record { x = 6; y = 0; kept = 0 ∷ 0 ∷ 0 ∷ 0 ∷ []; settled = true }
 unfolding six_fences told to_fences make p1_start p1_marks p1 programs marks_from marks_of one_section node node_acquire node_store code_of acquire add store
-    release last_release end boundary log point move start_of after_crash_of locks_in initial_words spread_words happens row result_of steps_after
+    release last_release end boundary log point move start_of after_crash_of resumed_registers locks_in initial_words spread_words happens row
+    result_of steps_after
 released_durably = refl
 
 overlap : List (List Slot)
@@ -294,7 +296,7 @@ given_up : told (many overlap overlap_marks 80 (Step 0)
     (make overlap overlap_marks Crash (many overlap overlap_marks 5 (Step 1) (to_fences overlap overlap_marks 300 8 0 overlap_start))))
     ≡ record { x = 2; y = 3; kept = 0 ∷ 0 ∷ 0 ∷ 0 ∷ 0 ∷ 0 ∷ 0 ∷ 0 ∷ []; settled = true }
 unfolding overlap_start told to_fences many make overlap_marks overlap programs marks_from marks_of one_section two_locks node node_acquire node_store code_of
-    acquire add store release last_release end boundary log point move start_of after_crash_of locks_in
+    acquire add store release last_release end boundary log point move start_of after_crash_of resumed_registers locks_in
     initial_words spread_words happens row result_of steps_after
 given_up = refl
 
@@ -306,14 +308,15 @@ both_taken =
 
 waits_for_the_other : reply_to overlap both_taken.world (Step 1) ≡ Barrier 0
 unfolding both_taken overlap_start to_fences many make overlap_marks overlap programs marks_from marks_of one_section two_locks node node_acquire node_store
-    code_of acquire add store release last_release end boundary log point move start_of after_crash_of locks_in initial_words spread_words happens row
+    code_of acquire add store release last_release end boundary log point move start_of after_crash_of resumed_registers locks_in initial_words
+    spread_words happens row
     result_of steps_after
 waits_for_the_other = refl
 
 both_resume : told (many overlap overlap_marks 100 (Step 1) (many overlap overlap_marks 80 (Step 0) both_taken))
     ≡ record { x = 11; y = 3; kept = 0 ∷ 0 ∷ 0 ∷ 0 ∷ 0 ∷ 1 ∷ 0 ∷ 0 ∷ 0 ∷ 1 ∷ 1 ∷ 1 ∷ []; settled = true }
 unfolding told both_taken overlap_start to_fences many make overlap_marks overlap programs marks_from marks_of one_section two_locks node node_acquire
-    node_store code_of acquire add store release last_release end boundary log point move start_of after_crash_of locks_in
+    node_store code_of acquire add store release last_release end boundary log point move start_of after_crash_of resumed_registers locks_in
     initial_words spread_words happens row
     result_of steps_after
 both_resume = refl
@@ -331,7 +334,8 @@ from_words = after_events p1 (after_crash_of V1 p1 1 (spread_words 8 left_words)
 
 resumed_from_words : live_value (word_at from_words.words 0) ≡ 6
 unfolding from_words left_words to_point make p1_start p1_marks p1 programs marks_from marks_of one_section node node_acquire node_store code_of acquire add
-    store release last_release end boundary log point move start_of after_crash_of locks_in initial_words spread_words happens row result_of steps_after
+    store release last_release end boundary log point move start_of after_crash_of resumed_registers locks_in initial_words spread_words happens row
+    result_of steps_after
 resumed_from_words = refl
 
 released_once : released_count p1 p1_start.world (replicate 80 (Step 0)) 0 ≡ 1

@@ -1,9 +1,8 @@
 -- What a step of a hart touches, and laws of worlds along events.
-use Rattle.std.specs.Prelude.{◌≡◌, ◌≢◌, ℕ, List, length, map, slice_get, Option, Some, None}
+use Rattle.std.specs.Prelude.{◌≡◌, ◌≢◌, ℕ, List, length, slice_get, Option, Some, None}
 use Rattle.machine_events.specs.declared.event.Event.{Event}
 use Rattle.log_schemes.specs.declared.log.Log.{Log}
-use Rattle.machine_events.specs.declared.event.Event.TheVariants.{Step, Evict, Crash}
-use Rattle.ido_base.specs.Words.{word_of}
+use Rattle.machine_events.specs.declared.event.Event.TheVariants.{Step, Evict}
 use Rattle.log_schemes.specs.Layout.{word_count}
 use Rattle.ido_base.specs.Growth.{AreChanged, ArePersisted, AreEntries}
 use Rattle.rv64_isa.specs.declared.object.Slot.{Slot}

@@ -1,9 +1,9 @@
 -- A machine of several harts over one memory: what each event does, and what it is replied.
-use Rattle.std.specs.Prelude.{ℕ, zero, suc, ◌+◌, ◌-◌, ◌*◌, ◌/◌, ◌%◌, ◌<◌, ◌≤◌, List, [], ◌∷◌, ◌++◌, map, length, slice_get, take}
+use Rattle.std.specs.Prelude.{ℕ, zero, suc, ◌+◌, ◌-◌, ◌*◌, ◌/◌, ◌%◌, ◌<◌, ◌≤◌, List, [], ◌∷◌, ◌++◌, map, length, slice_get}
 use Rattle.std.specs.Prelude.{slice_set, Option, Some, None, Bool, true, false, not, nat_lt, ◌==◌, ◌&&◌, if◌then◌else◌, replicate}
 use Rattle.machine_events.specs.declared.event.Event.{Event}
 use Rattle.log_schemes.specs.declared.log.Log.{Log}
-use Rattle.log_schemes.specs.declared.log.Log.TheVariants.{V1, V2}
+use Rattle.log_schemes.specs.Schemes.{keeps_register, locks_read, numbers_from, register_slot}
 use Rattle.machine_events.specs.declared.event.Event.TheVariants.{Step, Evict, Crash, Start}
 use Rattle.machine_events.specs.declared.event.Reply.{Reply}
 use Rattle.machine_events.specs.declared.event.Reply.TheVariants.{Moved, Drained, Waits, Barrier, Still, Stuck, Device}
@@ -11,7 +11,7 @@ use Rattle.machine_events.specs.declared.event.Cause.{Cause}
 use Rattle.machine_events.specs.declared.event.Cause.TheVariants.{Illegal, Outside, Unaligned, NoCode, NoCall, NoLock, NotHeld, EndHolding}
 use Rattle.ido_base.specs.Words.{Word, Entry, word_of, word_at, live_value, durable_value, loaded, stored, entry_of, drained, evicted}
 use Rattle.machine_events.specs.Cores.{IsValid, IsValidNow}
-use Rattle.ido_base.specs.Locks.{is_held_by, least_held, holds_none, least_missing, locks_in}
+use Rattle.ido_base.specs.Locks.{is_held_by, least_held, holds_none, least_missing}
 use Rattle.ido_base.specs.Layout.{aligned, byte_number, word_number}
 use Rattle.log_schemes.specs.Layout.{in_range, point_at, slot_at}
 use Rattle.ido_base.specs.Layout.{line_bytes, spread_words}
@@ -155,20 +155,9 @@ resume_of point = point - point % 2
 abbrev pub recorded : Log → List Word → (thread slot : ℕ) → ℕ
 recorded log words thread slot = durable_at words (slot_at log thread (bank_of (durable_point log words thread)) slot)
 
--- the numbers from `at` on, so many
-abbrev pub numbers_from : (at count : ℕ) → List ℕ
-numbers_from at zero = []
-numbers_from at (suc count) = at ∷ numbers_from (at + 1) count
-
 -- the record of a thread: the locks that it held at its durable point, in the order in which its bank has them
 abbrev pub record_of : Log → List Word → (thread : ℕ) → List ℕ
-record_of log words thread = if durable_point log words thread == 0 then [] else locks_of_bank log words thread
-  where
-    -- the locks of the point's bank
-    locks_of_bank : Log → List Word → ℕ → List ℕ
-    locks_of_bank V1 ws t = locks_in (recorded V1 ws t 0)
-    -- as many as slot 0 says, of the 16 from slot 32 on
-    locks_of_bank V2 ws t = take (recorded V2 ws t 0) (map (recorded V2 ws t) (numbers_from 32 16))
+record_of log words thread = if durable_point log words thread == 0 then [] else locks_read log (recorded log words thread)
 
 -- takes the lock, or waits for it
 abbrev pub taken : World → ℕ → Hart → Option ℕ → Outcome
@@ -195,17 +184,16 @@ abbrev pub waited : World → ℕ → Hart → Option ℕ → Outcome
 waited w h hart None = moved w h (record hart { phase = Resume })
 waited w h hart (Some taking) = (w, Barrier taking)
 
--- register r as it is resumed: x0 is 0, x3 the bank's offset, all others as the bank has them
+-- register r as it is resumed: x3 has the bank's offset, those that banks keep what the bank has of them, and all others are 0
 abbrev pub resumed_register : Log → List Word → (thread r : ℕ) → ℕ
 resumed_register log words thread r =
-    if r == 0 then 0
-    else if r == 3 then bank_bytes log * bank_of (durable_point log words thread)
-    else recorded log words thread r
+    if r == 3 then bank_bytes log * bank_of (durable_point log words thread)
+    else if keeps_register log r then recorded log words thread (register_slot log r)
+    else 0
 
 -- all registers as they are resumed
-abbrev pub resumed_registers : Log → List Word → (thread : ℕ) → List ℕ
-resumed_registers V1 words thread = map (resumed_register V1 words thread) (numbers_from 0 32)
-resumed_registers V2 words thread = map (resumed_register V2 words thread) (numbers_from 0 32)
+unfoldable pub resumed_registers : Log → List Word → (thread : ℕ) → List ℕ
+resumed_registers log words thread = map (resumed_register log words thread) (numbers_from 0 32)
 
 abbrev pub resumed : World → ℕ → Hart → Outcome
 resumed w h hart = moved w h (record hart {

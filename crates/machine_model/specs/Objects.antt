@@ -1,5 +1,5 @@
 -- The code of an object as a machine runs it.
-use Rattle.std.specs.Prelude.{ℕ, List, map}
+use Rattle.std.specs.Prelude.{List, map}
 use Rattle.rv64_isa.specs.declared.object.Slot.{Slot}
 use Rattle.rv64_isa.specs.Programs.{slot_of}
 use Rattle.machine_model.specs.declared.object.Object.{Object}

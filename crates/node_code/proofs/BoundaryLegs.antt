@@ -9,7 +9,8 @@ use Rattle.rv64_link.specs.LabelledCode.{most_words_of}
 use Rattle.boundary_code.specs.Boundaries.{Boundary, IsOnSide, resume_address, words_beside}
 use Rattle.code_runs.specs.CodeTraces.{GoesThrough}
 use Rattle.node_code.specs.BoundaryCode.{IsBoundaryCode, undivided, in_parts}
-use Rattle.node_code.specs.Numbers.{LeaveLocks}
+use Rattle.log_schemes.specs.declared.keeping.Keeping.{Keeping}
+use Rattle.node_code.specs.Numbers.{LeaveAs, LeaveLocks}
 use Rattle.node_code.specs.Pieces.{LeavesRegisters, boundary_observations, IsBoundaryPiece, words_in}
 use Rattle.node_code.specs.Sites.{Linking, IsPart, mark_waits, begin_of, end_of}
 use Rattle.node_code.specs.links.BoundaryCode.{IsCodeOf}
@@ -36,12 +37,8 @@ module _ (all : List CodeItem) (n : Linking all) where
       (LeavesRegisters b side x)
   code_leg k b codes code p x side to w waits (undivided h) leave on e = boundary_leg all n k b code p x side to w waits h on e
   code_leg k b codes code p x side to w waits (in_parts h) leave on e =
-      subst (λ (log : Log). LeaveLocks log b.thread b.locks codes x → IsOnSide log side x →
-      GoesThrough n.environment (fragment x (at k) (at (k + length (plain code))) (length code))
-      (waiting w ++ boundary_observations (record { log = log; thread = b.thread; locks = b.locks; live = b.live; resume = b.resume }) side to x)
-      (LeavesRegisters (record { log = log; thread = b.thread; locks = b.locks; live = b.live; resume = b.resume }) side x)) (sym h.log_is)
-      (λ leaves at_side.
-      list_leg b.thread b.live b.resume x b.locks h.some all n codes code h.parts h.thread_is leaves h.few k p side to w waits at_side e) leave on
+      list_leg b.log h.lists b.thread b.live b.resume x b.locks h.some all n codes code h.parts h.thread_is
+      (subst (λ (keeping : Keeping). LeaveAs keeping b.log b.thread b.locks codes x) h.lists leave) h.few k p side to w waits on e
 
   pub boundary_items_leg : (k : ℕ) (b : Boundary) (codes : List (List Instr)) (code : List Instr) (p : IsPart all k (boundary_items code)) (x : List ℕ)
       (side : ℕ) → mark_waits false p.before ≡ false → IsBoundaryCode b codes code → b.resume ≡ pos 0 →

@@ -17,13 +17,14 @@ use Rattle.rv64_isa.specs.declared.object.CodeItem.TheVariants.{ResumeNext}
 use Rattle.rv64_isa.specs.Rows.{Effect, Stores, Cleans, row, read, written}
 use Rattle.rv64_link.specs.LabelledCode.{most_words_of, stands_here, is_mark, is_resume, positions_from}
 use Rattle.boundary_code.specs.Boundaries.{Boundary, IsOnSide, boundary_effects, bank_effects, commit_effects}
-use Rattle.boundary_code.specs.Boundaries.{lines_in_use, kept_locks, slots_kept, resume_address, is_empty}
+use Rattle.boundary_code.specs.Boundaries.{lines_in_use, slots_kept, resume_address, is_empty}
+use Rattle.log_schemes.specs.Schemes.{kept_locks, register_slot}
 use Rattle.operator_code.specs.StraightLineCode.{registers_after, left_by}
 use Rattle.operator_code.proofs.Public as s
 use Rattle.code_runs.specs.CodeTraces.{GoesThrough, AreMemory}
 use Rattle.node_code.specs.Sites.{Linking, IsPart, mark_waits}
 use Rattle.node_code.specs.Pieces.{LeavesRegisters, boundary_observations}
-use Rattle.node_code.specs.BoundaryCode.{IsStraightCodeOf}
+use Rattle.boundary_code.specs.Boundaries.{IsStraightCodeOf}
 use Rattle.node_code.specs.links.ItemLists.{plain, boundary_items}
 use Rattle.node_code.proofs.ItemAddresses.{part_right, waits_append, waits_plain_on, labels_append, labels_plain}
 use Rattle.node_code.proofs.ItemAddresses.{positions_append, no_marks_in, no_resumes_in}
@@ -86,11 +87,11 @@ bank_memory : (b : Boundary) (bank : ℕ) (x : List ℕ) → AreMemory (bank_eff
 bank_memory b bank x =
     let lines = lines_in_use b.log (slots_kept b.log b.locks b.live) in
     let locked = map (λ (k : ℕ × ℕ). Stores (slot_at b.log b.thread bank k.0) 8 k.1) (kept_locks b.log b.locks) in
-    let stored = map (λ r. Stores (slot_at b.log b.thread bank r) 8 (read x r)) b.live in
+    let stored = map (λ r. Stores (slot_at b.log b.thread bank (register_slot b.log r)) 8 (read x r)) b.live in
     let cleaned = map (λ line. Cleans (slot_at b.log b.thread bank (8 * line))) lines in
     memory_both (locked ++ stored) cleaned
     (memory_both locked stored (locks_memory (slot_at b.log b.thread bank) (kept_locks b.log b.locks))
-    (stores_memory (λ r. slot_at b.log b.thread bank r) (λ r. read x r) b.live))
+    (stores_memory (λ r. slot_at b.log b.thread bank (register_slot b.log r)) (λ r. read x r) b.live))
     (cleans_memory (λ line. slot_at b.log b.thread bank (8 * line)) lines)
 
 pub boundary_memory : (b : Boundary) (side resume : ℕ) (x : List ℕ) → AreMemory (boundary_effects b side resume x)

@@ -17,7 +17,8 @@ use Rattle.rv64_link.specs.LabelledCode.{is_fence, one_if, fences_of, fences_in}
 use Rattle.rv64_link.specs.LinkedCode.{AreInstructions}
 use Rattle.rv64_link.proofs.Public.{no_instructions, more_instructions, within, some_at}
 use Rattle.boundary_code.specs.Boundaries.{Boundary, HasEffects, boundary_effects, bank_effects}
-use Rattle.boundary_code.specs.Boundaries.{commit_effects, lines_in_use, kept_locks, slots_kept, resume_address}
+use Rattle.boundary_code.specs.Boundaries.{commit_effects, lines_in_use, slots_kept, resume_address}
+use Rattle.log_schemes.specs.Schemes.{kept_locks, lock_slot, register_slot}
 use Rattle.boundary_code.specs.Boundaries.{IsUnderWay, Opens, Closes, closing_effects, keep_locks, other_side}
 use Rattle.operator_code.specs.StraightLineCode.{effects, registers_after, seen, left_by}
 use Rattle.operator_code.specs.declared.branches.Test.{Test}
@@ -30,7 +31,7 @@ use Rattle.boundary_code.proofs.Public.{fresh_on_side}
 use Rattle.node_code.specs.BoundaryCode.{IsQuiet, IsListedCodeOf, IsBoundaryCode, undivided, in_parts}
 use Rattle.node_code.proofs.ListLegs.{plain_both}
 use Rattle.rv64_isa.specs.declared.instr.StoreKind.TheVariants.{Sd}
-use Rattle.log_schemes.specs.declared.log.Log.TheVariants.{V2}
+use Rattle.log_schemes.specs.declared.log.Log.{Log}
 use Rattle.std.specs.List.{AllByRecursion}
 
 -- ---- Items
@@ -112,10 +113,10 @@ bank_has_none b bank x =
     let at : ℕ → ℕ = slot_at b.log b.thread bank in
     let lines : List ℕ = lines_in_use b.log (slots_kept b.log b.locks b.live) in
     let locked = map (λ (k : ℕ × ℕ). Stores (at k.0) 8 k.1) (kept_locks b.log b.locks) in
-    let stored = map (λ (r : ℕ). Stores (at r) 8 (read x r)) b.live in
+    let stored = map (λ (r : ℕ). Stores (at (register_slot b.log r)) 8 (read x r)) b.live in
     let cleaned = map (λ (line : ℕ). Cleans (at (8 * line))) lines in
     let zeroth : fences_seen locked ≡ 0 = locks_have_none (kept_locks b.log b.locks) at in
-    let first : fences_seen stored ≡ 0 = stores_have_none b.live at (read x) in
+    let first : fences_seen stored ≡ 0 = stores_have_none b.live (λ r. at (register_slot b.log r)) (read x) in
     let last : fences_seen cleaned ≡ 0 = cleans_have_none lines (λ line. at (8 * line)) in
     let both : fences_seen (locked ++ stored) ≡ fences_seen locked + fences_seen stored = seen_append locked stored in
     let all : fences_seen ((locked ++ stored) ++ cleaned) ≡ fences_seen (locked ++ stored) + fences_seen cleaned = seen_append (locked ++ stored) cleaned in
@@ -140,16 +141,16 @@ straight_fences b code h =
     sym (fences_are_seen code zeros 0) ∙ ap fences_seen (h.does zeros 0 0 (fresh_on_side b.log)) ∙ two_seen b 0 (resume_address b code 0) zeros
 
 -- of two parts the first one has none, and the last one both
-opening_fences : (thread count : ℕ) (code : List Instr) → Opens V2 thread count code → fences_in (plain code) ≡ 0
-opening_fences thread count code opens = sym (fences_are_seen code zeros 0) ∙ ap fences_seen (opens.does zeros 0 0 (fresh_on_side V2))
+opening_fences : (log : Log) (thread count : ℕ) (code : List Instr) → Opens log thread count code → fences_in (plain code) ≡ 0
+opening_fences log thread count code opens = sym (fences_are_seen code zeros 0) ∙ ap fences_seen (opens.does zeros 0 0 (fresh_on_side log))
 
 closing_seen : (b : Boundary) (bank resume : ℕ) (x : List ℕ) → fences_seen (closing_effects b bank resume x) ≡ 2
 closing_seen b bank resume x =
     let at : ℕ → ℕ = slot_at b.log b.thread bank in
     let lines : List ℕ = lines_in_use b.log (slots_kept b.log b.locks b.live) in
-    let stored = map (λ (r : ℕ). Stores (at r) 8 (read x r)) b.live in
+    let stored = map (λ (r : ℕ). Stores (at (register_slot b.log r)) 8 (read x r)) b.live in
     let cleaned = map (λ (line : ℕ). Cleans (at (8 * line))) lines in
-    let first : fences_seen stored ≡ 0 = stores_have_none b.live at (read x) in
+    let first : fences_seen stored ≡ 0 = stores_have_none b.live (λ r. at (register_slot b.log r)) (read x) in
     let second : fences_seen cleaned ≡ 0 = cleans_have_none lines (λ line. at (8 * line)) in
     let both : fences_seen (stored ++ cleaned) ≡ fences_seen stored + fences_seen cleaned = seen_append stored cleaned in
     let all = seen_append (stored ++ cleaned) (commit_effects b.log b.thread ((resume + bank) % 2 ^ 64)) in
@@ -161,12 +162,12 @@ closing_fences b code z closes under =
     sym (fences_are_seen code z 0)
     ∙ (ap fences_seen (closes.does zeros z 0 0 under) ∙ closing_seen b (other_side 0) (resume_address b code 0) zeros)
 
-locks_fences : (slot : ℕ) (codes : List (List Instr)) → AllByRecursion IsQuiet codes → fences_in (plain (keep_locks slot codes)) ≡ 0
-locks_fences slot [] quiet = refl
-locks_fences slot (code ∷ codes) quiet =
-    let store : Instr = Store Sd 5 30 (64 + 8 * slot) in
-    let rest : List Instr = keep_locks (slot + 1) codes in
-    let more : fences_in (plain rest) ≡ 0 = locks_fences (slot + 1) codes quiet.1 in
+locks_fences : (log : Log) (index : ℕ) (codes : List (List Instr)) → AllByRecursion IsQuiet codes → fences_in (plain (keep_locks log index codes)) ≡ 0
+locks_fences log index [] quiet = refl
+locks_fences log index (code ∷ codes) quiet =
+    let store : Instr = Store Sd 5 30 (64 + 8 * lock_slot log index) in
+    let rest : List Instr = keep_locks log (index + 1) codes in
+    let more : fences_in (plain rest) ≡ 0 = locks_fences log (index + 1) codes quiet.1 in
     let sum : fences_in (plain (code ++ store ∷ rest)) ≡ fences_in (plain code) + fences_in (plain (store ∷ rest)) =
     ap (λ (is : List CodeItem). fences_in is) (plain_both code (store ∷ rest)) ∙ fences_append (plain code) (plain (store ∷ rest)) in
     let one : fences_in (plain (store ∷ rest)) ≡ 0 + fences_in (plain rest) = fences_cons (Instruction store) (plain rest) in
@@ -176,14 +177,14 @@ locks_fences slot (code ∷ codes) quiet =
 listed_fences : (b : Boundary) (codes : List (List Instr)) (code : List Instr) → IsListedCodeOf b codes code → fences_in (plain code) ≡ 2
 listed_fences b codes code h =
     let opening : List Instr = h.parts.opening in
-    let middle : List Instr = keep_locks 32 codes in
+    let middle : List Instr = keep_locks b.log 0 codes in
     let closing : List Instr = h.parts.closing in
-    let made : Boundary = record { log = V2; thread = b.thread; locks = b.locks; live = b.live; resume = b.resume } in
-    let first : fences_in (plain opening) ≡ 0 = opening_fences b.thread (length codes) opening h.parts.opens in
-    let second : fences_in (plain middle) ≡ 0 = locks_fences 32 codes h.quiet in
+    let made : Boundary = record { log = b.log; thread = b.thread; locks = b.locks; live = b.live; resume = b.resume } in
+    let first : fences_in (plain opening) ≡ 0 = opening_fences b.log b.thread (length codes) opening h.parts.opens in
+    let second : fences_in (plain middle) ≡ 0 = locks_fences b.log 0 codes h.quiet in
     let third : fences_in (plain closing) ≡ 2 =
     closing_fences made closing (registers_after opening zeros 0) (h.parts.closes b.locks h.many)
-    (h.parts.opens.leaves zeros 0 0 (fresh_on_side V2)) in
+    (h.parts.opens.leaves zeros 0 0 (fresh_on_side b.log)) in
     let outer : fences_in (plain code) ≡ fences_in (plain opening) + fences_in (plain (middle ++ closing)) =
     ap (λ (is : List Instr). fences_in (plain is)) h.parts.split
     ∙ (ap (λ (is : List CodeItem). fences_in is) (plain_both opening (middle ++ closing)) ∙ fences_append (plain opening) (plain (middle ++ closing))) in

@@ -5,7 +5,9 @@ use Rattle.std.specs.Prelude.{ℤ, if◌then◌else◌}
 use Rattle.std.proofs.lemmas.List.{length-append}
 use Rattle.log_schemes.specs.Layout.{bank_bytes, slot_at}
 use Rattle.ido_base.specs.declared.limits.TheConstants.{MOST_THREADS}
-use Rattle.log_schemes.specs.declared.log.Log.TheVariants.{V2}
+use Rattle.log_schemes.specs.declared.keeping.Keeping.{Keeping}
+use Rattle.log_schemes.specs.declared.keeping.Keeping.TheVariants.{Listed}
+use Rattle.log_schemes.specs.declared.log.Log.{Log}
 use Rattle.rv64_isa.specs.declared.instr.Instr.{Instr}
 use Rattle.rv64_isa.specs.declared.object.CodeItem.{CodeItem}
 use Rattle.rv64_isa.specs.declared.object.CodeItem.TheVariants.{Instruction}
@@ -14,7 +16,8 @@ use Rattle.rv64_isa.specs.Signed.{twos_complement}
 use Rattle.operator_code.specs.StraightLineCode.{effects, registers_after}
 use Rattle.operator_code.proofs.Public as s
 use Rattle.boundary_code.specs.Boundaries.{Boundary, IsOnSide, IsUnderWay, Opens, Closes, boundary_effects, closing_effects, commit_effects}
-use Rattle.boundary_code.specs.Boundaries.{is_empty, lines_in_use, listed_from, other_side, resume_address, slots_kept, keep_locks, IsListCode}
+use Rattle.boundary_code.specs.Boundaries.{is_empty, lines_in_use, other_side, resume_address, slots_kept, keep_locks, IsListCode}
+use Rattle.log_schemes.specs.Schemes.{keeping_of, kept_as, listed_from, register_slot}
 use Rattle.boundary_code.proofs.Public.{stores_of}
 use Rattle.code_runs.specs.CodeTraces.{AreMemory, Does, GoesThrough, Observation, seen_effects}
 use Rattle.node_code.specs.Numbers.{LeaveNumbers}
@@ -29,16 +32,16 @@ use Rattle.node_code.proofs.ListLegs.{kept, lock_parts, parts_are, plain_both, l
 
 -- ---- Marks and lengths
 
-as_many : (thread : ℕ) (x numbers : List ℕ) (codes : List (List Instr)) → LeaveNumbers V2 thread x numbers codes → length numbers ≡ length codes
-as_many thread x [] [] leave = refl
-as_many thread x [] (code ∷ codes) leave = absurd leave
-as_many thread x (number ∷ numbers) [] leave = absurd leave
-as_many thread x (number ∷ numbers) (code ∷ codes) leave = let more = as_many thread x numbers codes leave.1 in omega (arith, more)
+as_many : (log : Log) (thread : ℕ) (x numbers : List ℕ) (codes : List (List Instr)) → LeaveNumbers log thread x numbers codes → length numbers ≡ length codes
+as_many log thread x [] [] leave = refl
+as_many log thread x [] (code ∷ codes) leave = absurd leave
+as_many log thread x (number ∷ numbers) [] leave = absurd leave
+as_many log thread x (number ∷ numbers) (code ∷ codes) leave = let more = as_many log thread x numbers codes leave.1 in omega (arith, more)
 
-parts_wait : (slot : ℕ) (codes : List (List Instr)) → mark_waits false (lock_parts slot codes) ≡ false
-parts_wait slot [] = refl
-parts_wait slot (code ∷ codes) =
-    waits_append false (plain code) (Instruction (kept slot) ∷ lock_parts (slot + 1) codes) ∙ parts_wait (slot + 1) codes
+parts_wait : (log : Log) (index : ℕ) (codes : List (List Instr)) → mark_waits false (lock_parts log index codes) ≡ false
+parts_wait log index [] = refl
+parts_wait log index (code ∷ codes) =
+    waits_append false (plain code) (Instruction (kept log index) ∷ lock_parts log (index + 1) codes) ∙ parts_wait log (index + 1) codes
 
 -- no mark waits after code
 code_waits : (w : Bool) (code : List Instr) → code ≢ [] → mark_waits w (plain code) ≡ false
@@ -49,50 +52,53 @@ seen_both : (es fs : List Effect) → seen_effects (es ++ fs) ≡ seen_effects e
 seen_both [] fs = refl
 seen_both (e ∷ es) fs = ap (λ (os : List Observation). Does e ∷ os) (seen_both es fs)
 
-opening_some : (thread count : ℕ) (code : List Instr) (x : List ℕ) (side : ℕ) → Opens V2 thread count code → IsOnSide V2 side x → code ≢ []
-opening_some thread count code x side opens on none =
-    let no : effects [] x 0 ≡ Stores (slot_at V2 thread (other_side side) 0) 8 count ∷ [] =
-    subst (λ (c : List Instr). effects c x 0 ≡ Stores (slot_at V2 thread (other_side side) 0) 8 count ∷ []) none (opens.does x 0 side on) in
+opening_some : (log : Log) (thread count : ℕ) (code : List Instr) (x : List ℕ) (side : ℕ) → Opens log thread count code → IsOnSide log side x → code ≢ []
+opening_some log thread count code x side opens on none =
+    let no : effects [] x 0 ≡ Stores (slot_at log thread (other_side side) 0) 8 count ∷ [] =
+    subst (λ (c : List Instr). effects c x 0 ≡ Stores (slot_at log thread (other_side side) 0) 8 count ∷ []) none (opens.does x 0 side on) in
     cc
 
 -- ---- What it does
 
-module _ (thread : ℕ) (live : List ℕ) (resume : ℤ) (x numbers : List ℕ) (some : is_empty numbers ≡ false) where
+module _ (log : Log) (lists : keeping_of log ≡ Listed) (thread : ℕ) (live : List ℕ) (resume : ℤ) (x numbers : List ℕ) (some : is_empty numbers ≡ false) where
   abbrev b : Boundary
-  b = record { log = V2; thread = thread; locks = numbers; live = live; resume = resume }
+  b = record { log = log; thread = thread; locks = numbers; live = live; resume = resume }
 
   all_effects : (side to count : ℕ) → length numbers ≡ count → boundary_effects b side to x ≡
-      Stores (slot_at V2 thread (other_side side) 0) 8 count ∷
-      (stores_of V2 thread (other_side side) (listed_from 32 numbers) ++ closing_effects b (other_side side) to x)
+      Stores (slot_at log thread (other_side side) 0) 8 count ∷
+      (stores_of log thread (other_side side) (listed_from log 0 numbers) ++ closing_effects b (other_side side) to x)
   all_effects side to count many =
       let other : ℕ = other_side side in
-      let first : ℕ → Effect = λ c. Stores (slot_at V2 thread other 0) 8 c in
-      let listed : List Effect = stores_of V2 thread other (listed_from 32 numbers) in
-      let stored : List Effect = map (λ r. Stores (slot_at V2 thread other r) 8 (read x r)) live in
-      let cleaned : List Effect = map (λ line. Cleans (slot_at V2 thread other (8 * line))) (lines_in_use V2 (slots_kept V2 numbers live)) in
-      let commit : List Effect = commit_effects V2 thread ((to + other) % 2 ^ 64) in
-      ap (λ (z : Bool). if z then commit_effects V2 thread 0 else (((first (length numbers) ∷ listed) ++ stored) ++ cleaned) ++ commit) some
+      let first : ℕ → Effect = λ c. Stores (slot_at log thread other 0) 8 c in
+      let listed : List Effect = stores_of log thread other (listed_from log 0 numbers) in
+      let stored : List Effect = map (λ r. Stores (slot_at log thread other (register_slot log r)) 8 (read x r)) live in
+      let cleaned : List Effect = map (λ line. Cleans (slot_at log thread other (8 * line))) (lines_in_use log (slots_kept log numbers live)) in
+      let commit : List Effect = commit_effects log thread ((to + other) % 2 ^ 64) in
+      ap (λ (k : Keeping). if is_empty numbers then commit_effects log thread 0
+      else ((stores_of log thread other (kept_as k log numbers) ++ stored)
+      ++ map (λ line. Cleans (slot_at log thread other (8 * line))) (lines_in_use log (slots_kept log numbers live))) ++ commit) lists
+      ∙ (ap (λ (z : Bool). if z then commit_effects log thread 0 else (((first (length numbers) ∷ listed) ++ stored) ++ cleaned) ++ commit) some
       ∙ (ap (λ (es : List Effect). es ++ commit) (append_assoc (first (length numbers) ∷ listed) stored cleaned)
       ∙ (append_assoc (first (length numbers) ∷ listed) (stored ++ cleaned) commit
-      ∙ ap (λ (c : ℕ). first c ∷ (listed ++ ((stored ++ cleaned) ++ commit))) many))
+      ∙ ap (λ (c : ℕ). first c ∷ (listed ++ ((stored ++ cleaned) ++ commit))) many)))
 
   closing_memory : (bank to : ℕ) → AreMemory (closing_effects b bank to x)
   closing_memory bank to =
-      let lines : List ℕ = lines_in_use V2 (slots_kept V2 numbers live) in
-      let stored : List Effect = map (λ r. Stores (slot_at V2 thread bank r) 8 (read x r)) live in
-      let cleaned : List Effect = map (λ line. Cleans (slot_at V2 thread bank (8 * line))) lines in
-      memory_both (stored ++ cleaned) (commit_effects V2 thread ((to + bank) % 2 ^ 64))
-      (memory_both stored cleaned (stores_memory (λ r. slot_at V2 thread bank r) (λ r. read x r) live)
-      (cleans_memory (λ line. slot_at V2 thread bank (8 * line)) lines))
-      (commit_memory V2 thread ((to + bank) % 2 ^ 64))
+      let lines : List ℕ = lines_in_use log (slots_kept log numbers live) in
+      let stored : List Effect = map (λ r. Stores (slot_at log thread bank (register_slot log r)) 8 (read x r)) live in
+      let cleaned : List Effect = map (λ line. Cleans (slot_at log thread bank (8 * line))) lines in
+      memory_both (stored ++ cleaned) (commit_effects log thread ((to + bank) % 2 ^ 64))
+      (memory_both stored cleaned (stores_memory (λ r. slot_at log thread bank (register_slot log r)) (λ r. read x r) live)
+      (cleans_memory (λ line. slot_at log thread bank (8 * line)) lines))
+      (commit_memory log thread ((to + bank) % 2 ^ 64))
 
-  closing_left : (closing : List Instr) (y : List ℕ) (pc side : ℕ) → Closes b closing → IsOnSide V2 side x → IsUnderWay V2 thread (other_side side) x y →
+  closing_left : (closing : List Instr) (y : List ℕ) (pc side : ℕ) → Closes b closing → IsOnSide log side x → IsUnderWay log thread (other_side side) x y →
       LeavesRegisters b side x (registers_after closing y pc)
   closing_left closing y pc side closes on under = record {
     at_side = record {
       count = after_count closing y pc ∙ under.count;
       zero_is = closes.others x y pc side under 0 refl (λ e. let z : ⊥ = omega (arith, e) in z) ∙ on.zero_is;
-      offset = closes.offset x y pc side under ∙ sym (ap (λ (z : Bool). bank_bytes V2 * (if z then side else other_side side)) some);
+      offset = closes.offset x y pc side under ∙ sym (ap (λ (z : Bool). bank_bytes log * (if z then side else other_side side)) some);
       exists = subst (λ (z : Bool). (if z then side else other_side side) < 2) (sym some) (omega arith);
     };
     others = closes.others x y pc side under;
@@ -105,23 +111,23 @@ module _ (thread : ℕ) (live : List ℕ) (resume : ℤ) (x numbers : List ℕ) 
     at = n.linked.address_of
 
     abbrev Under : (side : ℕ) → List ℕ → Type 0
-    Under side y = IsUnderWay V2 thread (other_side side) x y
+    Under side y = IsUnderWay log thread (other_side side) x y
 
     opening_leg : (k count : ℕ) (code : List Instr) (p : IsPart all k (plain code)) (side : ℕ) (w : Bool) → mark_waits false p.before ≡ w →
-        Opens V2 thread count code → IsOnSide V2 side x →
+        Opens log thread count code → IsOnSide log side x →
         GoesThrough n.environment (fragment x (at k) (at (k + length (plain code))) (length code))
-        (waiting w ++ (Does (Stores (slot_at V2 thread (other_side side) 0) 8 count) ∷ [])) (Under side)
-    opening_leg k count [] p side w waits opens on = absurd (opening_some thread count [] x side opens on refl)
+        (waiting w ++ (Does (Stores (slot_at log thread (other_side side) 0) 8 count) ∷ [])) (Under side)
+    opening_leg k count [] p side w waits opens on = absurd (opening_some log thread count [] x side opens on refl)
     opening_leg k count (i ∷ is) p side w waits opens on =
         let y : List ℕ = registers_after (i ∷ is) x (at k) in
-        let es : List Effect = Stores (slot_at V2 thread (other_side side) 0) 8 count ∷ [] in
+        let es : List Effect = Stores (slot_at log thread (other_side side) 0) 8 count ∷ [] in
         let run : s.RunsFrom (i ∷ is) x (at k) es y = record { sees = opens.does x (at k) side on; leaves = refl } in
         weaker n.environment (fragment x (at k) (at (k + length (plain (i ∷ is)))) (length (i ∷ is))) (waiting w ++ seen_effects es) (λ z. z ≡ y) (Under side)
-        (λ z f. subst (λ (v : List ℕ). IsUnderWay V2 thread (other_side side) x v) (sym f) (opens.leaves x (at k) side on))
+        (λ z f. subst (λ (v : List ℕ). IsUnderWay log thread (other_side side) x v) (sym f) (opens.leaves x (at k) side on))
         (straight_leg all n k i is p x y es w waits run (refl, tt))
 
     closing_leg : (k : ℕ) (code : List Instr) (p : IsPart all k (plain code)) → mark_waits false p.before ≡ false → (side to : ℕ) → Closes b code →
-        IsOnSide V2 side x → resume_address b code (at k) ≡ to → (y : List ℕ) → Under side y →
+        IsOnSide log side x → resume_address b code (at k) ≡ to → (y : List ℕ) → Under side y →
         GoesThrough n.environment (fragment y (at k) (at (k + length (plain code))) (length code)) (seen_effects (closing_effects b (other_side side) to x))
         (LeavesRegisters b side x)
     closing_leg k code p closed side to closes on e y under =
@@ -150,10 +156,10 @@ module _ (thread : ℕ) (live : List ℕ) (resume : ℤ) (x numbers : List ℕ) 
 
     -- ---- The whole
 
-    module _ (codes : List (List Instr)) (code : List Instr) (list : IsListCode thread live resume codes code) (small : thread < MOST_THREADS)
-        (leave : LeaveNumbers V2 thread x numbers codes) (few : length numbers ≤ 16) where
+    module _ (codes : List (List Instr)) (code : List Instr) (list : IsListCode log thread live resume codes code) (small : thread < MOST_THREADS)
+        (leave : LeaveNumbers log thread x numbers codes) (few : length numbers ≤ 16) where
       abbrev middle : List CodeItem
-      middle = lock_parts 32 codes
+      middle = lock_parts log 0 codes
 
       abbrev parts : List CodeItem
       parts = plain list.opening ++ (middle ++ plain list.closing)
@@ -161,20 +167,20 @@ module _ (thread : ℕ) (live : List ℕ) (resume : ℤ) (x numbers : List ℕ) 
       items_are : plain code ≡ parts
       items_are =
           ap (λ (is : List Instr). plain is) list.split
-          ∙ (plain_both list.opening (keep_locks 32 codes ++ list.closing)
+          ∙ (plain_both list.opening (keep_locks log 0 codes ++ list.closing)
           ∙ ap (λ (is : List CodeItem). plain list.opening ++ is)
-          (plain_both (keep_locks 32 codes) list.closing ∙ ap (λ (is : List CodeItem). is ++ plain list.closing) (parts_are 32 codes)))
+          (plain_both (keep_locks log 0 codes) list.closing ∙ ap (λ (is : List CodeItem). is ++ plain list.closing) (parts_are log 0 codes)))
 
-      words_are : length list.opening + (length (keep_locks 32 codes) + length list.closing) ≡ length code
+      words_are : length list.opening + (length (keep_locks log 0 codes) + length list.closing) ≡ length code
       words_are = omega (
         arith,
         ap (λ (is : List Instr). length is) list.split,
-        length-append list.opening (keep_locks 32 codes ++ list.closing),
-        length-append (keep_locks 32 codes) list.closing,
+        length-append list.opening (keep_locks log 0 codes ++ list.closing),
+        length-append (keep_locks log 0 codes) list.closing,
       )
 
       -- from registers that are on a side the code of a boundary is run, after the mark that waits for it, with these numbers for its locks
-      pub list_leg : (k : ℕ) (p : IsPart all k (plain code)) (side to : ℕ) (w : Bool) → mark_waits false p.before ≡ w → IsOnSide V2 side x →
+      pub list_leg : (k : ℕ) (p : IsPart all k (plain code)) (side to : ℕ) (w : Bool) → mark_waits false p.before ≡ w → IsOnSide log side x →
           resume_address b code (at k) ≡ to →
           GoesThrough n.environment (fragment x (at k) (at (k + length (plain code))) (length code)) (waiting w ++ boundary_observations b side to x)
           (LeavesRegisters b side x)
@@ -183,9 +189,9 @@ module _ (thread : ℕ) (live : List ℕ) (resume : ℤ) (x numbers : List ℕ) 
           let c : List Instr = list.closing in
           let other : ℕ = other_side side in
           let env = n.environment in
-          let many : length numbers ≡ length codes = as_many thread x numbers codes leave in
-          let first : List Observation = Does (Stores (slot_at V2 thread other 0) 8 (length codes)) ∷ [] in
-          let listed : List Effect = stores_of V2 thread other (listed_from 32 numbers) in
+          let many : length numbers ≡ length codes = as_many log thread x numbers codes leave in
+          let first : List Observation = Does (Stores (slot_at log thread other 0) 8 (length codes)) ∷ [] in
+          let listed : List Effect = stores_of log thread other (listed_from log 0 numbers) in
           let last : List Effect = closing_effects b other to x in
           let q : IsPart all k parts = as_part k (plain code) parts items_are p in
           let q_waits = as_waits k (plain code) parts items_are p ∙ waits in
@@ -193,11 +199,11 @@ module _ (thread : ℕ) (live : List ℕ) (resume : ℤ) (x numbers : List ℕ) 
           let second : IsPart all k2 (middle ++ plain c) = part_right all k (plain o) (middle ++ plain c) q in
           let second_closed : mark_waits false second.before ≡ false =
           waits_right all k (plain o) (middle ++ plain c) q
-          ∙ code_waits (mark_waits false q.before) o (opening_some thread (length codes) o x side list.opens on) in
+          ∙ code_waits (mark_waits false q.before) o (opening_some log thread (length codes) o x side list.opens on) in
           let k3 : ℕ = k2 + length middle in
           let third : IsPart all k3 (plain c) = part_right all k2 middle (plain c) second in
           let third_closed : mark_waits false third.before ≡ false =
-          waits_right all k2 middle (plain c) second ∙ (ap (λ (v : Bool). mark_waits v middle) second_closed ∙ parts_wait 32 codes) in
+          waits_right all k2 middle (plain c) second ∙ (ap (λ (v : Bool). mark_waits v middle) second_closed ∙ parts_wait log 0 codes) in
           let count : k3 + length (plain c) ≡ k + length (plain code) = omega (
             arith,
             ap (λ (is : List CodeItem). length is) items_are,
@@ -210,14 +216,14 @@ module _ (thread : ℕ) (live : List ℕ) (resume : ℤ) (x numbers : List ℕ) 
           let one = opening_leg k (length codes) o (part_left all k (plain o) (middle ++ plain c) q) side w
           (waits_left all k (plain o) (middle ++ plain c) q ∙ q_waits) list.opens on in
           let later : (y : List ℕ) → Under side y →
-          GoesThrough env (fragment y (at k2) (at (k3 + length (plain c))) (length (keep_locks 32 codes) + length c)) (seen_effects listed ++ seen_effects last)
+          GoesThrough env (fragment y (at k2) (at (k3 + length (plain c))) (length (keep_locks log 0 codes) + length c)) (seen_effects listed ++ seen_effects last)
           (LeavesRegisters b side x) = λ y under.
-          two_legs env y (at k2) (at k3) (at (k3 + length (plain c))) (length (keep_locks 32 codes)) (length c) (seen_effects listed) (seen_effects last)
+          two_legs env y (at k2) (at k3) (at (k3 + length (plain c))) (length (keep_locks log 0 codes)) (length c) (seen_effects listed) (seen_effects last)
           (Under side) (LeavesRegisters b side x)
-          (locks_leg all n V2 thread other x small (omega arith) 32 numbers codes (omega (arith, few)) leave k2
+          (locks_leg all n log lists thread other x small (omega arith) 0 numbers codes (omega (arith, few)) leave k2
           (part_left all k2 middle (plain c) second) (waits_left all k2 middle (plain c) second ∙ second_closed) y under)
           (λ z below. closing_leg k3 c third third_closed side to (list.closes numbers many) on resumed z below) in
-          let whole = two_legs env x (at k) (at k2) (at (k3 + length (plain c))) (length o) (length (keep_locks 32 codes) + length c) (waiting w ++ first)
+          let whole = two_legs env x (at k) (at k2) (at (k3 + length (plain c))) (length o) (length (keep_locks log 0 codes) + length c) (waiting w ++ first)
           (seen_effects listed ++ seen_effects last) (Under side) (LeavesRegisters b side x) one later in
           let seen : (waiting w ++ first) ++ (seen_effects listed ++ seen_effects last) ≡ waiting w ++ boundary_observations b side to x =
           append_assoc (waiting w) first (seen_effects listed ++ seen_effects last)
@@ -225,7 +231,7 @@ module _ (thread : ℕ) (live : List ℕ) (resume : ℤ) (x numbers : List ℕ) 
           (ap (λ (os : List Observation). first ++ os) (sym (seen_both listed last))
           ∙ ap (λ (es : List Effect). seen_effects es) (sym (all_effects side to (length codes) many))) in
           subst (λ (os : List Observation). GoesThrough env (fragment x (at k) (at (k + length (plain code))) (length code)) os (LeavesRegisters b side x)) seen
-          (more_room env x (at k) (at (k + length (plain code))) (length o + (length (keep_locks 32 codes) + length c)) (length code)
+          (more_room env x (at k) (at (k + length (plain code))) (length o + (length (keep_locks log 0 codes) + length c)) (length code)
           ((waiting w ++ first) ++ (seen_effects listed ++ seen_effects last)) (LeavesRegisters b side x) (omega (arith, words_are))
-          (moved env x (at k) (at k) (at (k3 + length (plain c))) (at (k + length (plain code))) (length o + (length (keep_locks 32 codes) + length c))
+          (moved env x (at k) (at k) (at (k3 + length (plain c))) (at (k + length (plain code))) (length o + (length (keep_locks log 0 codes) + length c))
           ((waiting w ++ first) ++ (seen_effects listed ++ seen_effects last)) (LeavesRegisters b side x) refl (ap at count) whole))

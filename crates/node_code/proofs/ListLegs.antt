@@ -10,8 +10,10 @@ use Rattle.rv64_isa.specs.declared.instr.StoreKind.TheVariants.{Sd}
 use Rattle.rv64_isa.specs.declared.object.CodeItem.{CodeItem}
 use Rattle.rv64_isa.specs.declared.object.CodeItem.TheVariants.{Instruction}
 use Rattle.rv64_isa.specs.Rows.{Stores, read}
-use Rattle.boundary_code.specs.Boundaries.{IsUnderWay, listed_from, keep_locks}
-use Rattle.boundary_code.proofs.Public.{number_stored, stores_of}
+use Rattle.boundary_code.specs.Boundaries.{IsUnderWay, keep_locks}
+use Rattle.log_schemes.specs.declared.keeping.Keeping.TheVariants.{Listed}
+use Rattle.log_schemes.specs.Schemes.{keeping_of, listed_from, lock_slot}
+use Rattle.boundary_code.proofs.Public.{lock_slots_few, number_stored, stores_of}
 use Rattle.code_runs.specs.ComputingRuns as r
 use Rattle.code_runs.specs.CodeTraces.{Observation, Does, GoesThrough, seen_effects}
 use Rattle.node_code.specs.Numbers.{LeavesNumber, LeaveNumbers, NumberLeft}
@@ -23,23 +25,23 @@ use Rattle.node_code.proofs.LegComposition.{fragment, end_is, more_room, two_leg
 
 -- ---- The items
 
-abbrev pub kept : (slot : ℕ) → Instr
-kept slot = Store Sd 5 30 (64 + 8 * slot)
+abbrev pub kept : Log → (index : ℕ) → Instr
+kept log index = Store Sd 5 30 (64 + 8 * lock_slot log index)
 
 -- the instructions of the locks, lock by lock
-abbrev pub lock_parts : (slot : ℕ) → (codes : List (List Instr)) → List CodeItem
-lock_parts slot [] = []
-lock_parts slot (code ∷ codes) = plain code ++ (Instruction (kept slot) ∷ lock_parts (slot + 1) codes)
+abbrev pub lock_parts : Log → (index : ℕ) → (codes : List (List Instr)) → List CodeItem
+lock_parts log index [] = []
+lock_parts log index (code ∷ codes) = plain code ++ (Instruction (kept log index) ∷ lock_parts log (index + 1) codes)
 
 pub plain_both : (xs ys : List Instr) → plain (xs ++ ys) ≡ plain xs ++ plain ys
 plain_both [] ys = refl
 plain_both (x ∷ xs) ys = ap (λ (is : List CodeItem). Instruction x ∷ is) (plain_both xs ys)
 
-pub parts_are : (slot : ℕ) (codes : List (List Instr)) → plain (keep_locks slot codes) ≡ lock_parts slot codes
-parts_are slot [] = refl
-parts_are slot (code ∷ codes) =
-    plain_both code (kept slot ∷ keep_locks (slot + 1) codes)
-    ∙ ap (λ (is : List CodeItem). plain code ++ (Instruction (kept slot) ∷ is)) (parts_are (slot + 1) codes)
+pub parts_are : (log : Log) (index : ℕ) (codes : List (List Instr)) → plain (keep_locks log index codes) ≡ lock_parts log index codes
+parts_are log index [] = refl
+parts_are log index (code ∷ codes) =
+    plain_both code (kept log index ∷ keep_locks log (index + 1) codes)
+    ∙ ap (λ (is : List CodeItem). plain code ++ (Instruction (kept log index) ∷ is)) (parts_are log (index + 1) codes)
 
 module _ (all : List CodeItem) (n : Linking all) where
   abbrev at : ℕ → ℕ
@@ -83,58 +85,58 @@ module _ (all : List CodeItem) (n : Linking all) where
 
   -- ---- All of them
 
-  module _ (log : Log) (thread bank : ℕ) (x : List ℕ) (small : thread < MOST_THREADS) (below : bank < 2) where
+  module _ (log : Log) (listed : keeping_of log ≡ Listed) (thread bank : ℕ) (x : List ℕ) (small : thread < MOST_THREADS) (below : bank < 2) where
     abbrev Under : List ℕ → Type 0
     Under y = IsUnderWay log thread bank x y
 
     -- the store of one
-    stored_leg : (k slot : ℕ) (p : IsPart all k (plain (kept slot ∷ []))) → mark_waits false p.before ≡ false → (y : List ℕ) (number : ℕ) → slot < 48 →
+    stored_leg : (k index : ℕ) (p : IsPart all k (plain (kept log index ∷ []))) → mark_waits false p.before ≡ false → (y : List ℕ) (number : ℕ) → index < 16 →
         Under y → read y 5 ≡ number →
-        GoesThrough n.environment (fragment y (at k) (at (k + 1)) 1) (Does (Stores (slot_at log thread bank slot) 8 number) ∷ []) (λ z. z ≡ y)
-    stored_leg k slot p closed y number low under is =
-        straight_leg_on all n k (kept slot ∷ []) p y y (Stores (slot_at log thread bank slot) 8 number ∷ []) closed
-        (number_stored log thread bank slot x y number (at k) small below low under is) (refl, tt)
+        GoesThrough n.environment (fragment y (at k) (at (k + 1)) 1) (Does (Stores (slot_at log thread bank (lock_slot log index)) 8 number) ∷ []) (λ z. z ≡ y)
+    stored_leg k index p closed y number low under is =
+        straight_leg_on all n k (kept log index ∷ []) p y y (Stores (slot_at log thread bank (lock_slot log index)) 8 number ∷ []) closed
+        (number_stored log thread bank (lock_slot log index) x y number (at k) small below (lock_slots_few log index listed low) under is) (refl, tt)
 
     -- from registers within the boundary the slots get the numbers, in their order, and registers are within it still
-    pub locks_leg : (slot : ℕ) (numbers : List ℕ) (codes : List (List Instr)) → slot + length numbers ≤ 48 → LeaveNumbers log thread x numbers codes → (k : ℕ)
-        (p : IsPart all k (lock_parts slot codes)) → mark_waits false p.before ≡ false → (y : List ℕ) → Under y →
-        GoesThrough n.environment (fragment y (at k) (at (k + length (lock_parts slot codes))) (length (keep_locks slot codes)))
-        (seen_effects (stores_of log thread bank (listed_from slot numbers))) Under
-    locks_leg slot [] [] few leave k p closed y under =
+    pub locks_leg : (index : ℕ) (numbers : List ℕ) (codes : List (List Instr)) → index + length numbers ≤ 16 → LeaveNumbers log thread x numbers codes → (k : ℕ)
+        (p : IsPart all k (lock_parts log index codes)) → mark_waits false p.before ≡ false → (y : List ℕ) → Under y →
+        GoesThrough n.environment (fragment y (at k) (at (k + length (lock_parts log index codes))) (length (keep_locks log index codes)))
+        (seen_effects (stores_of log thread bank (listed_from log index numbers))) Under
+    locks_leg index [] [] few leave k p closed y under =
         let same : k ≡ k + 0 = omega arith in
         record { registers = y; steps = 0; walks = (ap (λ (m : ℕ). r.config y (at m)) same, refl); short = omega arith; are = under }
-    locks_leg slot [] (code ∷ codes) few leave k p closed y under = absurd leave
-    locks_leg slot (number ∷ numbers) [] few leave k p closed y under = absurd leave
-    locks_leg slot (number ∷ numbers) (code ∷ codes) few leave k p closed y under =
-        let rest : List CodeItem = lock_parts (slot + 1) codes in
-        let words : ℕ = length (keep_locks (slot + 1) codes) in
-        let store : List Observation = Does (Stores (slot_at log thread bank slot) 8 number) ∷ [] in
-        let more : List Observation = seen_effects (stores_of log thread bank (listed_from (slot + 1) numbers)) in
+    locks_leg index [] (code ∷ codes) few leave k p closed y under = absurd leave
+    locks_leg index (number ∷ numbers) [] few leave k p closed y under = absurd leave
+    locks_leg index (number ∷ numbers) (code ∷ codes) few leave k p closed y under =
+        let rest : List CodeItem = lock_parts log (index + 1) codes in
+        let words : ℕ = length (keep_locks log (index + 1) codes) in
+        let store : List Observation = Does (Stores (slot_at log thread bank (lock_slot log index)) 8 number) ∷ [] in
+        let more : List Observation = seen_effects (stores_of log thread bank (listed_from log (index + 1) numbers)) in
         let s = n.environment in
-        let own = part_left all k (plain code) (Instruction (kept slot) ∷ rest) p in
-        let own_closed = waits_left all k (plain code) (Instruction (kept slot) ∷ rest) p ∙ closed in
+        let own = part_left all k (plain code) (Instruction (kept log index) ∷ rest) p in
+        let own_closed = waits_left all k (plain code) (Instruction (kept log index) ∷ rest) p ∙ closed in
         let left = left_there k code own log thread bank x y number leave.0 below under in
         let z : List ℕ = left.registers in
         let k2 : ℕ = k + length (plain code) in
-        let second = part_right all k (plain code) (Instruction (kept slot) ∷ rest) p in
-        let second_closed = waits_right all k (plain code) (Instruction (kept slot) ∷ rest) p
+        let second = part_right all k (plain code) (Instruction (kept log index) ∷ rest) p in
+        let second_closed = waits_right all k (plain code) (Instruction (kept log index) ∷ rest) p
         ∙ (ap (λ (w : Bool). mark_waits w (plain code)) closed ∙ waits_plain_on code) in
         let one = run_leg k code own own_closed y z left.run left.short in
-        let two = stored_leg k2 slot (part_left all k2 (plain (kept slot ∷ [])) rest second)
-        (waits_left all k2 (plain (kept slot ∷ [])) rest second ∙ second_closed) z number (omega (arith, few)) left.under_way left.number_is in
-        let three = locks_leg (slot + 1) numbers codes (omega (arith, few)) leave.1 (k2 + 1) (part_right all k2 (plain (kept slot ∷ [])) rest second)
-        (waits_right all k2 (plain (kept slot ∷ [])) rest second) z left.under_way in
+        let two = stored_leg k2 index (part_left all k2 (plain (kept log index ∷ [])) rest second)
+        (waits_left all k2 (plain (kept log index ∷ [])) rest second ∙ second_closed) z number (omega (arith, few)) left.under_way left.number_is in
+        let three = locks_leg (index + 1) numbers codes (omega (arith, few)) leave.1 (k2 + 1) (part_right all k2 (plain (kept log index ∷ [])) rest second)
+        (waits_right all k2 (plain (kept log index ∷ [])) rest second) z left.under_way in
         let both : GoesThrough s (fragment y (at k) (at (k2 + 1)) (length code + 1)) store (λ v. v ≡ z) =
         two_legs s y (at k) (at k2) (at (k2 + 1)) (length code) 1 [] store (λ v. v ≡ z) (λ v. v ≡ z) one
         (λ v e. subst (λ (w : List ℕ). GoesThrough s (fragment w (at k2) (at (k2 + 1)) 1) store (λ u. u ≡ z)) (sym e) two) in
         let whole : GoesThrough s (fragment y (at k) (at (k2 + 1 + length rest)) (length code + 1 + words)) (store ++ more) Under =
         two_legs s y (at k) (at (k2 + 1)) (at (k2 + 1 + length rest)) (length code + 1) words store more (λ v. v ≡ z) Under both
         (λ v e. subst (λ (w : List ℕ). GoesThrough s (fragment w (at (k2 + 1)) (at (k2 + 1 + length rest)) words) more Under) (sym e) three) in
-        let end : k2 + 1 + length rest ≡ k + length (lock_parts slot (code ∷ codes)) =
-        omega (arith, length-append (plain code) (Instruction (kept slot) ∷ rest)) in
-        let few_words : length code + 1 + words ≤ length (keep_locks slot (code ∷ codes)) =
-        omega (arith, length-append code (kept slot ∷ keep_locks (slot + 1) codes)) in
-        more_room s y (at k) (at (k + length (lock_parts slot (code ∷ codes)))) (length code + 1 + words) (length (keep_locks slot (code ∷ codes)))
+        let end : k2 + 1 + length rest ≡ k + length (lock_parts log index (code ∷ codes)) =
+        omega (arith, length-append (plain code) (Instruction (kept log index) ∷ rest)) in
+        let few_words : length code + 1 + words ≤ length (keep_locks log index (code ∷ codes)) =
+        omega (arith, length-append code (kept log index ∷ keep_locks log (index + 1) codes)) in
+        more_room s y (at k) (at (k + length (lock_parts log index (code ∷ codes)))) (length code + 1 + words) (length (keep_locks log index (code ∷ codes)))
         (store ++ more) Under few_words
-        (moved s y (at k) (at k) (at (k2 + 1 + length rest)) (at (k + length (lock_parts slot (code ∷ codes)))) (length code + 1 + words) (store ++ more) Under
+        (moved s y (at k) (at k) (at (k2 + 1 + length rest)) (at (k + length (lock_parts log index (code ∷ codes)))) (length code + 1 + words) (store ++ more) Under
         refl (ap at end) whole)

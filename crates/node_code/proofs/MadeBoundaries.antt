@@ -5,38 +5,40 @@ use Rattle.std.specs.List.{AllByRecursion}
 use Rattle.std.proofs.lemmas.Bool.{ne_eqb, eq-eqb}
 use Rattle.ido_base.specs.declared.limits.TheConstants.{MOST_THREADS}
 use Rattle.log_schemes.specs.declared.log.Log.{Log}
-use Rattle.log_schemes.specs.declared.log.Log.TheVariants.{V1, V2}
+use Rattle.log_schemes.specs.declared.keeping.Keeping.{Keeping}
+use Rattle.log_schemes.specs.declared.keeping.Keeping.TheVariants.{Masked, Listed}
+use Rattle.log_schemes.specs.Schemes.{keeping_of}
 use Rattle.rv64_isa.specs.declared.instr.Instr.{Instr}
 use Rattle.rv64_isa.specs.declared.object.CodeItem.{CodeItem}
-use Rattle.boundary_code.specs.Boundaries.{Boundary, HasEffects, HasOffset, KeepsRegisters, GiveNumbers, IsListCode, is_empty, number_words}
+use Rattle.boundary_code.specs.Boundaries.{Boundary, IsListCode, IsStraightCodeOf, fixed_words, is_empty, number_words, words_beside, words_for}
 use Rattle.boundary_code.proofs.Public.{empty_where}
 use Rattle.node_code.specs.BoundaryCode.{IsQuiet, undivided, in_parts}
-use Rattle.node_code.specs.Pieces.{IsBoundaryPiece, IsLockPiece, IsUnlockPiece, MayKeep}
-use Rattle.node_code.specs.links.BoundaryCode.{IsCodeOf, keeps_none}
+use Rattle.node_code.specs.Pieces.{IsBoundaryPiece, IsLockPiece, IsUnlockPiece, MayKeep, MayKeepAs}
+use Rattle.node_code.specs.links.BoundaryCode.{IsCodeOf, keeps_none, none_as}
 
 -- ---- A log that lists its locks
 
-module _ (thread : ℕ) (live : List ℕ) (resume : ℤ) (small : thread < MOST_THREADS) where
+module _ (log : Log) (lists : keeping_of log ≡ Listed) (thread : ℕ) (live : List ℕ) (resume : ℤ) (small : thread < MOST_THREADS) where
   abbrev made : (locks : List ℕ) → Boundary
-  made locks = record { log = V2; thread = thread; locks = locks; live = live; resume = resume }
+  made locks = record { log = log; thread = thread; locks = locks; live = live; resume = resume }
+
+  words_are : (codes : List (List Instr)) → fixed_words log + number_words codes ≡ words_beside log codes
+  words_are codes = ap (λ (k : Keeping). fixed_words log + words_for k codes) (sym lists)
 
   pub listed_code : (codes : List (List Instr)) (code : List Instr) → length codes ≤ 16 → AllByRecursion IsQuiet codes →
-      length code ≤ length live + 39 + number_words codes →
-      ((numbers : List ℕ) → GiveNumbers numbers codes → HasEffects (made numbers) code) →
-      ((numbers : List ℕ) → GiveNumbers numbers codes → HasOffset V2 numbers code) →
-      ((numbers : List ℕ) → GiveNumbers numbers codes → KeepsRegisters V2 code) →
-      (length codes ≢ 0 → IsListCode thread live resume codes code) →
+      length code ≤ length live + fixed_words log + number_words codes →
+      (length codes ≡ 0 → IsStraightCodeOf (made []) code) → (length codes ≢ 0 → IsListCode log thread live resume codes code) →
       (locks : List ℕ) → length locks ≡ length codes → IsCodeOf (made locks) codes code
-  listed_code [] code few quiet short effects offset keeps parts [] many = record {
-    short = omega (arith, short);
-    is = undivided (record { effects_are = effects [] tt; offset = offset [] tt; keeps = keeps [] tt });
+  listed_code [] code few quiet short last parts [] many = record {
+    short = omega (arith, short, words_are []);
+    is = undivided (last refl);
   }
-  listed_code [] code few quiet short effects offset keeps parts (lock ∷ locks) many = absurd (let z : ⊥ = omega (arith, many) in z)
-  listed_code (one ∷ codes) code few quiet short effects offset keeps parts [] many = absurd (let z : ⊥ = omega (arith, many) in z)
-  listed_code (one ∷ codes) code few quiet short effects offset keeps parts (lock ∷ locks) many = record {
-    short = omega (arith, short);
+  listed_code [] code few quiet short last parts (lock ∷ locks) many = absurd (let z : ⊥ = omega (arith, many) in z)
+  listed_code (one ∷ codes) code few quiet short last parts [] many = absurd (let z : ⊥ = omega (arith, many) in z)
+  listed_code (one ∷ codes) code few quiet short last parts (lock ∷ locks) many = record {
+    short = omega (arith, short, words_are (one ∷ codes));
     is = in_parts (record {
-      log_is = refl;
+      lists = lists;
       thread_is = small;
       some = refl;
       few = omega (arith, many, few);
@@ -54,8 +56,11 @@ empty_by (lock ∷ locks) n many = sym (ne_eqb n 0 (λ none. let z : ⊥ = omega
 
 pub none_kept : (log : Log) (mask count : ℕ) (codes : List (List Instr)) (locks : List ℕ) → mask < 2 ^ 64 → length codes ≡ count →
     MayKeep log mask codes locks → is_empty locks ≡ keeps_none log mask count
-none_kept V1 mask count codes locks small many are = ap is_empty are ∙ empty_where mask small
-none_kept V2 mask count codes locks small many as_many = empty_by locks count (as_many ∙ many)
+none_kept log mask count codes locks small many may = by (keeping_of log) may
+  where
+    by : (k : Keeping) → MayKeepAs k mask codes locks → is_empty locks ≡ none_as k mask count
+    by Masked are = ap is_empty are ∙ empty_where mask small
+    by Listed as_many = empty_by locks count (as_many ∙ many)
 
 -- ---- Fewer registers, and more words
 

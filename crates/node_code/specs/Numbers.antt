@@ -1,7 +1,9 @@
 -- Code that leaves the number of a lock, wherever it stands in a boundary.
 use Rattle.std.specs.Prelude.{◌≡◌, ◌≢◌, ℕ, ◌+◌, ◌*◌, ◌^◌, ◌<◌, ◌≤◌, List, [], ◌∷◌, length, false}
 use Rattle.log_schemes.specs.declared.log.Log.{Log}
-use Rattle.log_schemes.specs.declared.log.Log.TheVariants.{V1, V2}
+use Rattle.log_schemes.specs.declared.keeping.Keeping.{Keeping}
+use Rattle.log_schemes.specs.declared.keeping.Keeping.TheVariants.{Masked, Listed}
+use Rattle.log_schemes.specs.Schemes.{keeping_of}
 use Rattle.rv64_isa.specs.declared.instr.Instr.{Instr}
 use Rattle.rv64_isa.specs.Rows.{read}
 use Rattle.memory_layout.specs.Roles.{bank_offset, is_temporary, lock}
@@ -54,6 +56,9 @@ pub record AsksNumber (x : List ℕ) (number : ℕ) (code : List Instr) : Type 0
 -- ---- Where the log lists locks
 
 -- registers from which codes leave the numbers of the locks, where the log lists them
+abbrev pub LeaveAs : Keeping → Log → (thread : ℕ) → (locks : List ℕ) → (codes : List (List Instr)) → (x : List ℕ) → Type 0
+LeaveAs Masked log thread locks codes x = Unit {0}
+LeaveAs Listed log thread locks codes x = LeaveNumbers log thread x locks codes
+
 abbrev pub LeaveLocks : Log → (thread : ℕ) → (locks : List ℕ) → (codes : List (List Instr)) → (x : List ℕ) → Type 0
-LeaveLocks V1 thread locks codes x = Unit {0}
-LeaveLocks V2 thread locks codes x = LeaveNumbers V2 thread x locks codes
+LeaveLocks log thread locks codes x = LeaveAs (keeping_of log) log thread locks codes x

@@ -2,7 +2,9 @@
 use Rattle.std.specs.Prelude.{◌≡◌, ◌≢◌, ℕ, ◌+◌, ◌-◌, ◌*◌, ◌/◌, ◌^◌, ◌<◌, ◌≤◌, List, [], ◌∷◌, ◌++◌, length, map, sum_by, Bool, false, if◌then◌else◌, pos}
 use Rattle.std.specs.List.{list_any}
 use Rattle.log_schemes.specs.declared.log.Log.{Log}
-use Rattle.log_schemes.specs.declared.log.Log.TheVariants.{V1, V2}
+use Rattle.log_schemes.specs.declared.keeping.Keeping.{Keeping}
+use Rattle.log_schemes.specs.declared.keeping.Keeping.TheVariants.{Masked, Listed}
+use Rattle.log_schemes.specs.Schemes.{keeping_of}
 use Rattle.ido_base.specs.Locks.{locks_in}
 use Rattle.ido_ints.specs.declared.kinds.Kind.{Kind}
 use Rattle.ido_ints.specs.Kinds.{bytes_of}
@@ -86,9 +88,12 @@ abbrev pub codes_of : kept.Kept → List (List Instr)
 codes_of k = lists_of k.numbers.now
 
 -- the locks that a boundary keeps: those of the mask, or one for each code
+abbrev pub MayKeepAs : Keeping → (mask : ℕ) → (codes : List (List Instr)) → (locks : List ℕ) → Type 0
+MayKeepAs Masked mask codes locks = locks ≡ locks_in mask
+MayKeepAs Listed mask codes locks = length locks ≡ length codes
+
 abbrev pub MayKeep : Log → (mask : ℕ) → (codes : List (List Instr)) → (locks : List ℕ) → Type 0
-MayKeep V1 mask codes locks = locks ≡ locks_in mask
-MayKeep V2 mask codes locks = length locks ≡ length codes
+MayKeep log mask codes locks = MayKeepAs (keeping_of log) mask codes locks
 
 -- the boundary that keeps these locks, and resumes so many bytes after its end
 abbrev pub boundary_of : kept.Kept → (locks : List ℕ) → (resume : ℕ) → Boundary

@@ -2,7 +2,8 @@
 ghost use Rattle.std.specs.Prelude.{◌≡◌, ◌<◌, ◌≤◌, ◌++◌, IsTrue, IfOk, OnOk, pos, length};
 ghost use Rattle.std.specs.List.{list_all, AllByRecursion};
 ghost use Rattle.ido_base.specs.declared.limits.TheConstants.{MOST_THREADS};
-ghost use Rattle.log_schemes.specs.declared.log.Log.TheVariants.{V1, V2};
+ghost use Rattle.log_schemes.specs.declared.keeping.Keeping.TheVariants.{Listed, Masked};
+ghost use Rattle.log_schemes.specs.Schemes.{keeping_of};
 ghost use Rattle.memory_layout.specs.Roles.{is_kept};
 ghost use Rattle.node_code.specs.BoundaryCode.{IsQuiet};
 ghost use Rattle.node_code.specs.Pieces.{Appends, IsBoundaryOf, codes_of};
@@ -13,7 +14,7 @@ use crate::items::push_plain;
 use crate::kept::Kept;
 use boundary_code::{boundary, boundary_list};
 use ido_base::memory::OutOfMemory;
-use log_schemes::log::Log;
+use log_schemes::keeping::Keeping;
 use rv64_isa::instr::Instr;
 use rv64_isa::object::CodeItem;
 use std::alloc::Global;
@@ -28,19 +29,26 @@ fn distance(bytes: u32) -> i32
 
 /// The code of a boundary of a log that keeps a mask.
 fn mask_code(alloc: Global, kept: &Kept, resume: u32) -> Result<Vec<Instr>, OutOfMemory>
-    requires log { kept.now.log ≡ V1 }
+    requires keeping { keeping_of kept.now.log ≡ Masked }
     requires thread { kept.now.thread < MOST_THREADS }
     requires live { IsTrue (list_all is_kept kept.now.live.now) }
     requires near { resume ≤ 262144 }
     ensures { IfOk result (λ code. IsCodeFor kept.now resume code.items) }
 {
-    let code = boundary(alloc, kept.thread, kept.mask, kept.live, distance(resume))?;
+    let code = boundary(
+        alloc,
+        kept.log,
+        kept.thread,
+        kept.mask,
+        kept.live,
+        distance(resume),
+    )?;
     Ok(code)
 }
 
 /// The code of a boundary of a log that lists its locks.
 fn list_code(alloc: Global, kept: &Kept, resume: u32) -> Result<Vec<Instr>, OutOfMemory>
-    requires log { kept.now.log ≡ V2 }
+    requires keeping { keeping_of kept.now.log ≡ Listed }
     requires thread { kept.now.thread < MOST_THREADS }
     requires live { IsTrue (list_all is_kept kept.now.live.now) }
     requires room { length kept.now.numbers.now ≤ 16 }
@@ -50,6 +58,7 @@ fn list_code(alloc: Global, kept: &Kept, resume: u32) -> Result<Vec<Instr>, OutO
 {
     let code = boundary_list(
         alloc,
+        kept.log,
         kept.thread,
         kept.numbers,
         kept.live,
@@ -71,9 +80,9 @@ pub(crate) fn boundary_code(
     requires near { resume ≤ 262144 }
     ensures { IfOk result (λ code. IsCodeFor kept.now resume code.items) }
 {
-    match kept.log {
-        Log::V1 => mask_code(alloc, kept, resume),
-        Log::V2 => list_code(alloc, kept, resume),
+    match kept.log.keeping() {
+        Keeping::Masked => mask_code(alloc, kept, resume),
+        Keeping::Listed => list_code(alloc, kept, resume),
     }
 }
 

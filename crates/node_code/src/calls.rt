@@ -12,6 +12,7 @@ use crate::boundaries::{append_boundary, boundary_code};
 use crate::items::{load_small, push_plain};
 use crate::kept::Kept;
 use ido_base::memory::OutOfMemory;
+use log_schemes::keeping::Keeping;
 use log_schemes::log::Log;
 use rv64_isa::field::Register;
 use rv64_isa::instr::Instr;
@@ -62,9 +63,9 @@ fn append_lock(
 fn keeps_none(log: Log, mask: u64, codes: usize) -> bool
     ensures { result ≡ keeps_none log mask codes }
 {
-    match log {
-        Log::V1 => mask == 0,
-        Log::V2 => codes == 0,
+    match log.keeping() {
+        Keeping::Masked => mask == 0,
+        Keeping::Listed => codes == 0,
     }
 }
 

@@ -18,7 +18,10 @@ use Rattle.file_fields.specs.Numbers.{number}
 use Rattle.file_fields.specs.links.ReaderResults.{Gives}
 use Rattle.file_fields.proofs.Public.{IsBytes, bind_ok, test_ok, kept_ok, ok_is, Takes, then, bytes_take, bytes_again, number_takes, number_again}
 use Rattle.file_fields.proofs.Public.{within_takes, within_again, magic_takes, magic_again, repeated_take, repeated_again}
-use Rattle.object_format.specs.Contents.{Contents, contents_of, items_of, IsInstructionWord, IsThreadCode, IsWithinLimits, least_words, most_locks}
+use Rattle.object_format.specs.Contents.{Contents, contents_of, items_of, IsInstructionWord, IsThreadCode, IsWithinLimits, least_words}
+use Rattle.log_schemes.specs.declared.keeping.Keeping.{Keeping}
+use Rattle.log_schemes.specs.declared.keeping.Keeping.TheVariants.{Masked, Listed}
+use Rattle.log_schemes.specs.Schemes.{keeping_of, most_kept, most_locks}
 use Rattle.object_format.specs.Contents.{version_of, word_bytes}
 use Rattle.object_format.specs.ObjectEncoder.{magic, thread_text, spelling}
 use Rattle.object_format.specs.ObjectDecoder.{Head, initial_at, log_at, word_at, thread_at, head_at, read}
@@ -80,8 +83,11 @@ log_again total V2 rest =
     ap (λ (read : Result (ℕ × List ℕ) Fault). read >>= λ n. chosen (n.0 == 1) (n.0 == 2) n.1) (number_again total 2 rest (omega arith))
 
 mutexes_fit : (log : Log) → most_locks log < 2 ^ 32
-mutexes_fit V1 = omega arith
-mutexes_fit V2 = omega arith
+mutexes_fit log = by (keeping_of log)
+  where
+    by : (k : Keeping) → most_kept k < 2 ^ 32
+    by Masked = omega arith
+    by Listed = omega arith
 
 -- ---- What stands before the code
 

@@ -2,9 +2,10 @@
 use Rattle.std.specs.Prelude.{◌≡◌, ℕ, ◌%◌, ◌^◌, ◌<◌, ◌≤◌, List, length, map, IsTrue, is_some}
 use Rattle.std.specs.List.{AllByRecursion}
 use Rattle.std.specs.Global.{Vec}
-use Rattle.ido_base.specs.declared.limits.TheConstants.{MOST_THREADS, MOST_LOCKS, MOST_MUTEXES, MOST_VARIABLE_BYTES, MOST_CODE_WORDS, WORD_BYTES}
+use Rattle.ido_base.specs.declared.limits.TheConstants.{MOST_THREADS, MOST_VARIABLE_BYTES, MOST_CODE_WORDS, WORD_BYTES}
 use Rattle.log_schemes.specs.declared.log.Log.{Log}
 use Rattle.log_schemes.specs.declared.log.Log.TheVariants.{V1, V2}
+use Rattle.log_schemes.specs.Schemes.{most_locks}
 use Rattle.rv64_isa.specs.Formats.{decoded}
 use Rattle.machine_model.specs.declared.object.Object.{Object}
 
@@ -34,11 +35,6 @@ version_of V2 = 2
 -- initial bytes are whole words
 abbrev pub word_bytes : ℕ
 word_bytes = WORD_BYTES
-
--- mutexes at most: a mask has a bit for each, and a list numbers
-abbrev pub most_locks : Log → ℕ
-most_locks V1 = MOST_MUTEXES
-most_locks V2 = MOST_LOCKS
 
 abbrev pub least_words : ℕ
 least_words = 1

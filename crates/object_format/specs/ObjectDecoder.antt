@@ -5,7 +5,8 @@ use Rattle.log_schemes.specs.declared.log.Log.{Log}
 use Rattle.log_schemes.specs.declared.log.Log.TheVariants.{V1, V2}
 use Rattle.rv64_isa.specs.Formats.{decoded}
 use Rattle.file_fields.specs.Fields.{Fault, Reads, Version, ◌>>=◌, bytes_at, number_at, kept, number_within, repeated, magic_at, ended}
-use Rattle.object_format.specs.Contents.{Contents, least_words, most_locks, word_bytes}
+use Rattle.object_format.specs.Contents.{Contents, least_words, word_bytes}
+use Rattle.log_schemes.specs.Schemes.{most_locks}
 use Rattle.object_format.specs.ObjectEncoder.{magic}
 
 -- the log of a version

@@ -9,7 +9,7 @@ ghost use Rattle.object_format.specs.ObjectDecoder.{word_at, thread_at, head_at,
 ghost use Rattle.object_format.specs.links.Heads.{head_of};
 
 use crate::fields::{initial_at, log_at, word_at};
-use crate::limits::{LEAST_WORDS, most_locks};
+use crate::limits::LEAST_WORDS;
 use file_fields::error::ReadError;
 use file_fields::reading::{Reader, magic_at, number_within, place_of, repeated};
 use ido_base::limits::{MOST_CODE_WORDS, MOST_THREADS};
@@ -34,7 +34,7 @@ fn head_at(total: u32, bytes: &[u8]) -> Result<(Head<'_>, &[u8]), ReadError>
     let rest = magic_at(total, b"IDO-OBJ\n", bytes)?;
     let (log, rest) = log_at(total, rest)?;
     let (threads, rest) = number_within(total, 0, MOST_THREADS, rest)?;
-    let (mutexes, rest) = number_within(total, 0, most_locks(log), rest)?;
+    let (mutexes, rest) = number_within(total, 0, log.most_locks(), rest)?;
     let (initial, rest) = initial_at(total, rest)?;
     let head = Head {
         log,

@@ -1,5 +1,5 @@
 -- Worked rows: which hart can step.
-use Rattle.std.proofs.Common.{◌≡◌, ℕ, Option, Some, None, false, ◌==◌, if◌then◌else◌, refl}
+use Rattle.std.proofs.Common.{◌≡◌, ℕ, Some, None, false, ◌==◌, if◌then◌else◌, refl}
 use Rattle.machine_events.specs.declared.event.Event.{Event}
 use Rattle.machine_events.specs.declared.event.Event.TheVariants.{Step, Evict, Crash, Start}
 use Rattle.machine_events.specs.declared.event.Cause.TheVariants.{NoCode}

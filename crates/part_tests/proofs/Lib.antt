@@ -1,2 +1,3 @@
 mod EnabledHarts
+mod NoPoints
 mod TwoSeats

@@ -1,1 +1,2 @@
 pub mod CountingCore
+pub mod MovingCore

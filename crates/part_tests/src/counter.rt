@@ -100,7 +100,7 @@ impl Counter {
 }
 
 impl Core for Counter {
-    ghost use Rattle.std.specs.Prelude.{ℕ};
+    ghost use Rattle.std.specs.Prelude.{ℕ, false};
 
     ghost Meaning = { ℕ };
 
@@ -119,6 +119,10 @@ impl Core for Counter {
     ghost is_local = { λ _ _ _. Unit {0} };
 
     ghost ahead_by = { λ _. 0 };
+
+    ghost goes_ahead = { λ _. false };
+
+    ghost is_at_beginning = { λ _ _ _. Unit {0} };
 
     fn harts(&self) -> u32 {
         1

@@ -28,6 +28,10 @@ mod regions;
 #[cfg(test)]
 mod registers;
 #[cfg(test)]
+mod rounds;
+#[cfg(test)]
 mod steps;
 #[cfg(test)]
 mod straight;
+#[cfg(test)]
+mod watched;

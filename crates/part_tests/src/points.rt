@@ -21,9 +21,10 @@ impl Replay for Points {
 
     fn outcome(&self, k: u32) -> Result<Outcome, OutOfMemory> {
         let bytes = vec![in self.alloc; k as u8; 1]?;
+        let report = Report::new(self.alloc, bytes)?;
         Ok(Outcome {
             settled: k % 2 == 0,
-            report: Report::new(bytes),
+            report,
         })
     }
 }

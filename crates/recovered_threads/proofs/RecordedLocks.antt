@@ -22,8 +22,9 @@ use Rattle.flow_graph.specs.Actions.{GraphThread, FlowState}
 use Rattle.flow_graph.proofs.Public.{found_in, lowered_threads}
 use Rattle.boundary_code.specs.Boundaries.{is_empty}
 use Rattle.boundary_code.proofs.Public.{none_there}
-use Rattle.log_states.specs.Logs.{Record, AreLoggable}
-use Rattle.log_states.proofs.Public.{contains_cases, contains_none, scheme}
+use Rattle.log_states.specs.Logs.{Record}
+use Rattle.log_schemes.specs.SchemeFacts.{AreLoggable}
+use Rattle.log_states.proofs.Public.{contains_cases, contains_none, locks_kept}
 use Rattle.thread_code.specs.Plans.{Plan, Thread, IsThread, IsNodeOf, IsPlan, locks_held, locks_held_from, set_before, locks_before}
 use Rattle.thread_code.proofs.Public.{has_held, names_are}
 use Rattle.recovered_threads.specs.RecordDescriptions.{Code, IsOrderly, Describes, between, inside, locks_of}
@@ -160,7 +161,7 @@ module _ (p : Plan) (kept : FlowState) (plan : IsPlan p) (orderly : IsOrderly p 
 
   -- a log can hold the locks before the node
   pub are_loggable : AreLoggable p.log own_locks
-  are_loggable = (scheme p.log).keeps.room own_locks (plan.room t graph_thread.locals graph_thread.at) locks_fit
+  are_loggable = (locks_kept p.log).room own_locks (plan.room t graph_thread.locals graph_thread.at) locks_fit
 
 -- ---- Records
 

@@ -6,7 +6,8 @@ use Rattle.std.proofs.lemmas.Option.{none-some, slice_get_within}
 use Rattle.machine_events.specs.declared.event.Event.TheVariants.{Crash}
 use Rattle.rv64_isa.specs.declared.object.Slot.{Slot}
 use Rattle.machine_model.specs.declared.phase.Phase.TheVariants.{Take, Done}
-use Rattle.machine_model.specs.Machine.{Hart, World, after_event, after_crash_of, happens, fresh_hart, phase_after_crash, durable_point, numbers_from}
+use Rattle.machine_model.specs.Machine.{Hart, World, after_event, after_crash_of, happens, fresh_hart, phase_after_crash, durable_point}
+use Rattle.log_schemes.specs.Schemes.{numbers_from}
 use Rattle.log_states.specs.Logs.{Record, nothing_recorded}
 use Rattle.log_states.specs.Stages.{is_committed}
 use Rattle.log_states.specs.Machines.{config_of}

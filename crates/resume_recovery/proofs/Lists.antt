@@ -5,7 +5,7 @@ use Rattle.std.specs.Prelude.{slice_get, min, not}
 use Rattle.std.proofs.lemmas.Bool.{cases_lt}
 use Rattle.std.proofs.lemmas.Option.{slice_get_within}
 use Rattle.ido_base.specs.Locks.{is_held_by, is_missing, lesser, least_missing}
-use Rattle.machine_model.specs.Machine.{numbers_from}
+use Rattle.log_schemes.specs.Schemes.{numbers_from}
 
 taken_few : (f : ℕ → ℕ) (at count n : ℕ) → n ≤ count → take n (map f (numbers_from at count)) ≡ map f (numbers_from at n)
 taken_few f at count zero few = refl
@@ -20,27 +20,24 @@ taken_all f at (suc count) (suc n) all = ap (λ (xs : List ℕ). f at ∷ xs) (t
 
 -- as many as are said, 16 at most
 pub taken : (f : ℕ → ℕ) (said count : ℕ) → (said < 16 → count ≡ said) → (16 ≤ said → count ≡ 16) →
-    map f (numbers_from 32 count) ≡ take said (map f (numbers_from 32 16))
+    map f (numbers_from 0 count) ≡ take said (map f (numbers_from 0 16))
 taken f said count few many = elim (cases_lt said 16) [
-  | inl less ↦ ap (λ (n : ℕ). map f (numbers_from 32 n)) (few less) ∙ sym (taken_few f 32 16 said (omega (arith, less)))
-  | inr no_less ↦ ap (λ (n : ℕ). map f (numbers_from 32 n)) (many (omega (arith, no_less))) ∙ sym (taken_all f 32 16 said (omega (arith, no_less)))
+  | inl less ↦ ap (λ (n : ℕ). map f (numbers_from 0 n)) (few less) ∙ sym (taken_few f 0 16 said (omega (arith, less)))
+  | inr no_less ↦ ap (λ (n : ℕ). map f (numbers_from 0 n)) (many (omega (arith, no_less))) ∙ sym (taken_all f 0 16 said (omega (arith, no_less)))
 ]
 
 -- before the first one
 pub begins : (f : ℕ → ℕ) (holders : List (Option ℕ)) (hart said count first : ℕ) → count ≡ min said 16 → said ≡ first →
-    least_missing holders (map f (numbers_from 32 (count - 0))) hart ≡ least_missing holders (take first (map f (numbers_from 32 16))) hart
+    least_missing holders (map f (numbers_from 0 (count - 0))) hart ≡ least_missing holders (take first (map f (numbers_from 0 16))) hart
 begins f holders hart said count first is at =
     let all : count - 0 ≡ count = omega arith in
-    ap (λ (n : ℕ). least_missing holders (map f (numbers_from 32 n)) hart) all
+    ap (λ (n : ℕ). least_missing holders (map f (numbers_from 0 n)) hart) all
     ∙ (ap (λ (ls : List ℕ). least_missing holders ls hart) (taken f said count (λ few. omega (arith, is, few)) (λ many. omega (arith, is, many)))
-    ∙ ap (λ (n : ℕ). least_missing holders (take n (map f (numbers_from 32 16))) hart) at)
+    ∙ ap (λ (n : ℕ). least_missing holders (take n (map f (numbers_from 0 16))) hart) at)
 
-left_is : (at count index : ℕ) → index < count →
-    numbers_from (at + index) (count - index) ≡ (at + index) ∷ numbers_from (at + (index + 1)) (count - (index + 1))
-left_is at count index below =
-    let more : count - index ≡ suc (count - (index + 1)) = omega (arith, below) in
-    let next : at + index + 1 ≡ at + (index + 1) = omega arith in
-    ap (λ (n : ℕ). numbers_from (at + index) n) more ∙ ap (λ (n : ℕ). (at + index) ∷ numbers_from n (count - (index + 1))) next
+left_is : (count index : ℕ) → index < count → numbers_from index (count - index) ≡ index ∷ numbers_from (index + 1) (count - (index + 1))
+left_is count index below =
+    let more : count - index ≡ suc (count - (index + 1)) = omega (arith, below) in ap (λ (n : ℕ). numbers_from index n) more
 
 -- the least of those before, and of the rest
 abbrev pub least_of : Option ℕ → Option ℕ → Option ℕ
@@ -56,23 +53,23 @@ regroup lock (Some least) (Some other) =
 module _ (f : ℕ → ℕ) (holders : List (Option ℕ)) (hart count index : ℕ) (before : Option ℕ) where
   -- the next one is among those before, and no more of the rest
   pub next : index < count →
-      least_of (if is_missing holders hart (f (32 + index)) then Some (lesser (f (32 + index)) before) else before)
-      (least_missing holders (map f (numbers_from (32 + (index + 1)) (count - (index + 1)))) hart)
-      ≡ least_of before (least_missing holders (map f (numbers_from (32 + index) (count - index))) hart)
+      least_of (if is_missing holders hart (f index) then Some (lesser (f index) before) else before)
+      (least_missing holders (map f (numbers_from (index + 1) (count - (index + 1)))) hart)
+      ≡ least_of before (least_missing holders (map f (numbers_from index (count - index))) hart)
   next below =
-      by (is_missing holders hart (f (32 + index))) (least_missing holders (map f (numbers_from (32 + (index + 1)) (count - (index + 1)))) hart)
-      ∙ sym (ap (λ (ns : List ℕ). least_of before (least_missing holders (map f ns) hart)) (left_is 32 count index below))
+      by (is_missing holders hart (f index)) (least_missing holders (map f (numbers_from (index + 1) (count - (index + 1)))) hart)
+      ∙ sym (ap (λ (ns : List ℕ). least_of before (least_missing holders (map f ns) hart)) (left_is count index below))
     where
-      by : (missing : Bool) (rest : Option ℕ) → least_of (if missing then Some (lesser (f (32 + index)) before) else before) rest
-          ≡ least_of before (if missing then Some (lesser (f (32 + index)) rest) else rest)
-      by true rest = regroup (f (32 + index)) before rest
+      by : (missing : Bool) (rest : Option ℕ) → least_of (if missing then Some (lesser (f index) before) else before) rest
+          ≡ least_of before (if missing then Some (lesser (f index) rest) else rest)
+      by true rest = regroup (f index) before rest
       by false rest = refl
 
   -- past the last one there is no rest
-  pub ends : count ≤ index → before ≡ least_of before (least_missing holders (map f (numbers_from (32 + index) (count - index))) hart)
+  pub ends : count ≤ index → before ≡ least_of before (least_missing holders (map f (numbers_from index (count - index))) hart)
   ends past =
       let none : count - index ≡ 0 = omega (arith, past) in
-      alone before ∙ sym (ap (λ (n : ℕ). least_of before (least_missing holders (map f (numbers_from (32 + index) n)) hart)) none)
+      alone before ∙ sym (ap (λ (n : ℕ). least_of before (least_missing holders (map f (numbers_from index n)) hart)) none)
     where
       alone : (before : Option ℕ) → before ≡ least_of before None
       alone None = refl

@@ -3,15 +3,17 @@ use Rattle.std.proofs.Common.{◌≡◌, ℕ, ◌-◌, ◌*◌, ◌%◌, ◌<◌
 use Rattle.std.proofs.Common.{None, Bool, true, false, refl, sym, ◌∙◌, ap, arith, if◌then◌else◌}
 use Rattle.std.proofs.lemmas.Bool.{cond-true, cond-false, eq-eqb, ne_eqb}
 use Rattle.log_schemes.specs.declared.log.Log.{Log}
-use Rattle.log_schemes.specs.declared.log.Log.TheVariants.{V1, V2}
+use Rattle.log_schemes.specs.declared.keeping.Keeping.{Keeping}
+use Rattle.log_schemes.specs.declared.keeping.Keeping.TheVariants.{Masked, Listed}
 use Rattle.log_schemes.specs.Layout.{bank_bytes, slot_at}
 use Rattle.ido_base.specs.Locks.{least_missing, locks_in}
 use Rattle.ido_base.specs.Words.{Word}
 use Rattle.log_schemes.specs.declared.point.Point.TheVariants.{Idle, At}
 use Rattle.log_schemes.specs.Points.{point_of}
 use Rattle.machine_model.specs.declared.phase.Phase.TheVariants.{Take, Done}
-use Rattle.machine_model.specs.Machine.{bank_of, resume_of, durable_at, durable_point, record_of}
-use Rattle.machine_model.specs.Machine.{resumed_register, resumed_registers, numbers_from, phase_after_crash}
+use Rattle.machine_model.specs.Machine.{bank_of, resume_of, durable_at, durable_point, record_of, recorded}
+use Rattle.machine_model.specs.Machine.{resumed_register, resumed_registers, phase_after_crash}
+use Rattle.log_schemes.specs.Schemes.{keeping_of, keeps_register, locks_read, numbers_from, read_as, register_slot}
 use Rattle.resume_recovery.specs.links.Points.{bank_in}
 
 -- a word that isn't 0, and where it says to go on
@@ -55,33 +57,46 @@ module _ (words : List Word) (hart : ℕ) where
   idle_record log locks none =
       sym (ap (λ (ls : List ℕ). least_missing locks ls hart) (cond-true (eqb (durable_point log words hart) 0) [] _ (eq-eqb _ 0 none)))
 
-  pub mask_record : (log : Log) (address bank mask : ℕ) → log ≡ V1 → IsPointTo (durable_point log words hart) address bank →
-      mask ≡ durable_at words (slot_at log hart bank 0) → locks_in mask ≡ record_of log words hart
-  mask_record V1 address bank mask first at is =
-      ap locks_in (is ∙ ap (λ (b : ℕ). durable_at words (slot_at V1 hart b 0)) at.in_bank)
-      ∙ sym (cond-false (eqb (durable_point V1 words hart) 0) [] _ at.other)
-  mask_record V2 address bank mask first at is = cc
+  -- what the slots of this bank have
+  abbrev pub slots_in : (log : Log) → (bank slot : ℕ) → ℕ
+  slots_in log bank slot = durable_at words (slot_at log hart bank slot)
 
-  -- what a list in this bank has
-  abbrev pub list_in : (bank : ℕ) → List ℕ
-  list_in bank = take (durable_at words (slot_at V2 hart bank 0)) (map (λ slot. durable_at words (slot_at V2 hart bank slot)) (numbers_from 32 16))
+  bank_record : (log : Log) (address bank : ℕ) → IsPointTo (durable_point log words hart) address bank →
+      locks_read log (slots_in log bank) ≡ record_of log words hart
+  bank_record log address bank at =
+      ap (λ (b : ℕ). locks_read log (slots_in log b)) at.in_bank
+      ∙ sym (cond-false (eqb (durable_point log words hart) 0) [] (locks_read log (slots_in log (bank_of (durable_point log words hart)))) at.other)
 
-  pub list_record : (log : Log) (address bank : ℕ) → log ≡ V2 → IsPointTo (durable_point log words hart) address bank → list_in bank ≡ record_of log words hart
-  list_record V1 address bank second at = cc
-  list_record V2 address bank second at =
-      ap (λ (b : ℕ). list_in b) at.in_bank ∙ sym (cond-false (eqb (durable_point V2 words hart) 0) [] _ at.other)
+  pub mask_record : (log : Log) (address bank mask : ℕ) → keeping_of log ≡ Masked → IsPointTo (durable_point log words hart) address bank →
+      mask ≡ slots_in log bank 0 → locks_in mask ≡ record_of log words hart
+  mask_record log address bank mask masked at is =
+      ap locks_in is ∙ (ap (λ (k : Keeping). read_as k log (slots_in log bank)) (sym masked) ∙ bank_record log address bank at)
 
-  pub register_0 : (log : Log) (r : ℕ) → r ≡ 0 → 0 ≡ resumed_register log words hart r
-  register_0 log r zero_ = sym (ap (resumed_register log words hart) zero_)
+  pub list_record : (log : Log) (address bank : ℕ) → keeping_of log ≡ Listed → IsPointTo (durable_point log words hart) address bank →
+      read_as Listed log (slots_in log bank) ≡ record_of log words hart
+  list_record log address bank listed at =
+      ap (λ (k : Keeping). read_as k log (slots_in log bank)) (sym listed) ∙ bank_record log address bank at
 
   pub register_3 : (log : Log) (r bank : ℕ) → r ≡ 3 → bank ≡ bank_of (durable_point log words hart) → bank_bytes log * bank ≡ resumed_register log words hart r
   register_3 log r bank three is = ap (λ (b : ℕ). bank_bytes log * b) is ∙ sym (ap (resumed_register log words hart) three)
 
-  pub register_other : (log : Log) (r bank value : ℕ) → (r ≡ 0 → ⊥) → (r ≡ 3 → ⊥) → bank ≡ bank_of (durable_point log words hart) →
-      value ≡ durable_at words (slot_at log hart bank r) → value ≡ resumed_register log words hart r
-  register_other log r bank value not_0 not_3 is read =
-      read ∙ ap (λ (b : ℕ). durable_at words (slot_at log hart b r)) is
-      ∙ sym (cond-false (eqb r 0) _ _ (ne_eqb r 0 not_0) ∙ cond-false (eqb r 3) _ _ (ne_eqb r 3 not_3))
+  -- what is resumed of a register but x3, where it is kept or not
+  abbrev kept_or_none : (log : Log) → (r : ℕ) → ℕ
+  kept_or_none log r = if keeps_register log r then recorded log words hart (register_slot log r) else 0
+
+  other_is : (log : Log) (r : ℕ) → (r ≡ 3 → ⊥) → kept_or_none log r ≡ resumed_register log words hart r
+  other_is log r not_3 =
+      sym (cond-false (eqb r 3) (bank_bytes log * bank_of (durable_point log words hart)) (kept_or_none log r) (ne_eqb r 3 not_3))
+
+  pub register_none : (log : Log) (r : ℕ) → (r ≡ 3 → ⊥) → keeps_register log r ≡ false → 0 ≡ resumed_register log words hart r
+  register_none log r not_3 none =
+      sym (cond-false (keeps_register log r) (recorded log words hart (register_slot log r)) 0 none) ∙ other_is log r not_3
+
+  pub register_kept : (log : Log) (r bank value : ℕ) → (r ≡ 3 → ⊥) → keeps_register log r ≡ true → bank ≡ bank_of (durable_point log words hart) →
+      value ≡ slots_in log bank (register_slot log r) → value ≡ resumed_register log words hart r
+  register_kept log r bank value not_3 keeps is read =
+      read ∙ (ap (λ (b : ℕ). slots_in log b (register_slot log r)) is
+      ∙ (sym (cond-true (keeps_register log r) (recorded log words hart (register_slot log r)) 0 keeps) ∙ other_is log r not_3))
 
 pub idle_phase : (point : ℕ) → point ≡ 0 → Done ≡ phase_after_crash point
 idle_phase point none = sym (ap phase_after_crash none)
@@ -92,5 +107,5 @@ taking_phase point other = sym (cond-false (eqb point 0) Done Take other)
 -- all registers, one by one
 pub registers_are : (log : Log) (words : List Word) (hart : ℕ) (registers : List ℕ) → registers ≡ map (resumed_register log words hart) (numbers_from 0 32) →
     registers ≡ resumed_registers log words hart
-registers_are V1 words hart registers are = are
-registers_are V2 words hart registers are = are
+unfolding resumed_registers
+registers_are log words hart registers are = are

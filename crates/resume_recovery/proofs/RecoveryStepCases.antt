@@ -13,7 +13,8 @@ use Rattle.rv64_isa.specs.declared.object.Slot.{Slot}
 use Rattle.machine_model.specs.declared.phase.Phase.{Phase}
 use Rattle.machine_model.specs.declared.phase.Phase.TheVariants.{Take, Wait, Resume, Run, Done, Ended}
 use Rattle.machine_model.specs.Machine.{Hart as HartModel, World, Outcome, record_of, taken, waited, taking_from, is_taking}
-use Rattle.machine_model.specs.Machine.{resumed, resumed_registers, resume_of, durable_point, numbers_from, phase_step}
+use Rattle.machine_model.specs.Machine.{resumed, resumed_registers, resume_of, durable_point, phase_step}
+use Rattle.log_schemes.specs.Schemes.{numbers_from}
 use Rattle.hart_core.specs.declared.hart.Hart.{Hart}
 use Rattle.hart_core.specs.StepsOnParts.{Parts, PartsStand, PartsEnd, IsStep}
 use Rattle.hart_core.proofs.Public.{same_end, changed_end}

@@ -1,18 +1,20 @@
 //! What a thread's log says durably: the point, and its bank.
-ghost use Rattle.std.specs.Prelude.{◌≡◌, ◌<◌, ℕ, List, Option, Some, IfSome, length, map, take, if◌then◌else◌};
+ghost use Rattle.std.specs.Prelude.{◌≡◌, ◌<◌, List, Some, IfSome, length, if◌then◌else◌};
 ghost use Rattle.log_schemes.specs.Layout.{slot_at};
 ghost use Rattle.ido_base.specs.Locks.{is_missing, lesser, least_missing};
-ghost use Rattle.log_schemes.specs.declared.log.Log.TheVariants.{V2};
+ghost use Rattle.log_schemes.specs.declared.keeping.Keeping.TheVariants.{Listed};
 ghost use Rattle.ido_base.specs.Words.{Word};
 ghost use Rattle.line_memory.specs.links.MemoryRepresentation.{Represents, log_in, threads_of};
 ghost use Rattle.log_schemes.specs.Points.{point_of};
 ghost use Rattle.resume_recovery.specs.links.Points.{bank_in};
-ghost use Rattle.machine_model.specs.Machine.{numbers_from, resume_of, durable_at, durable_point, record_of, phase_after_crash, resumed_register, resumed_registers};
+ghost use Rattle.machine_model.specs.Machine.{resume_of, durable_at, durable_point, record_of, phase_after_crash, resumed_register, resumed_registers};
+ghost use Rattle.log_schemes.specs.Schemes.{keeping_of, read_as};
 
 use line_memory::memory::LineMemory;
 use lock_table::LockTable;
-use log_schemes::addresses::{COUNT_SLOT, FIRST_LOCK_SLOT, MASK_SLOT, MOST_LISTED};
-use log_schemes::log::Log;
+use log_schemes::addresses::LOCKS_SLOT;
+use log_schemes::keeping::Keeping;
+use log_schemes::log::MOST_LISTED;
 use log_schemes::point::{Point, read_point};
 use machine_model::phase::Phase;
 use memory_layout::roles::BANK_OFFSET;
@@ -63,19 +65,22 @@ fn lesser_missing(hart: u32, locks: &LockTable, lock: u64, least: Option<u32>) -
     }
 }
 
-/// The least lock that a list in a bank has and the hart lacks: slot 0 says how many there are, and they stand from slot 32 on, 16 at most.
+/// The least lock that a list in a bank has and the hart lacks: slot 0 says how many there are, 16 at most, and each has its slot.
 fn missing_of_list(hart: u32, bank: u32, memory: &LineMemory, locks: &LockTable) -> Option<u32>
     requires hart { hart < threads_of memory.now }
     requires bank { bank < 2 }
-    requires log { log_in memory.now ≡ V2 }
+    requires keeping { keeping_of (log_in memory.now) ≡ Listed }
     ensures value { (words : List Word) → Represents memory.now words → result ≡ least_missing locks.now
-        (take (durable_at words (slot_at V2 hart bank 0)) (map (λ slot. durable_at words (slot_at V2 hart bank slot)) (numbers_from 32 16))) hart }
+        (read_as Listed (log_in memory.now) (λ slot. durable_at words (slot_at (log_in memory.now) hart bank slot))) hart }
     ensures within { IfSome result (λ lock. lock < length locks.now) }
 {
-    let count = memory.durable_slot(hart, bank, COUNT_SLOT).min(MOST_LISTED);
+    let log = memory.log();
+    let count = memory
+        .durable_slot(hart, bank, u32::from(LOCKS_SLOT))
+        .min(u64::from(MOST_LISTED));
     let mut least = None;
-    for index in 0..count as u32 {
-        let lock = memory.durable_slot(hart, bank, FIRST_LOCK_SLOT + index);
+    for index in 0..count as u8 {
+        let lock = memory.durable_slot(hart, bank, u32::from(log.lock_slot(index)));
         least = lesser_missing(hart, locks, lock, least);
     }
     least
@@ -90,9 +95,11 @@ pub fn missing_lock(hart: u32, memory: &LineMemory, locks: &LockTable) -> Option
 {
     match point_of(hart, memory) {
         Point::Idle => None,
-        Point::At { bank, .. } => match memory.log() {
-            Log::V1 => locks.least_missing(memory.durable_slot(hart, bank, MASK_SLOT), hart),
-            Log::V2 => missing_of_list(hart, bank, memory, locks),
+        Point::At { bank, .. } => match memory.log().keeping() {
+            Keeping::Masked => {
+                locks.least_missing(memory.durable_slot(hart, bank, u32::from(LOCKS_SLOT)), hart)
+            }
+            Keeping::Listed => missing_of_list(hart, bank, memory, locks),
         },
     }
 }
@@ -108,20 +115,21 @@ pub fn phase_after_crash(hart: u32, memory: &LineMemory) -> Phase
     }
 }
 
-/// What a register resumes with: x0 is 0, x3 has the bank's offset, the others are as the bank has them.
-fn resumed_register(hart: u32, register: u32, memory: &LineMemory) -> u64
+/// What a register resumes with: x3 has the bank's offset, those that banks keep are as the bank has them, and all others are 0.
+fn resumed_register(hart: u32, register: u8, memory: &LineMemory) -> u64
     requires hart { hart < threads_of memory.now }
     requires register { register < 32 }
     ensures { (words : List Word) → Represents memory.now words → result ≡ resumed_register (log_in memory.now) words hart register }
 {
     let bank = bank_of(point_of(hart, memory));
-    if register == 0 {
+    let log = memory.log();
+    if register == BANK_OFFSET {
+        return log.bank_bytes() * u64::from(bank);
+    }
+    if !log.keeps_register(register) {
         return 0;
     }
-    if register == u32::from(BANK_OFFSET) {
-        return memory.log().bank_bytes() * u64::from(bank);
-    }
-    memory.durable_slot(hart, bank, register)
+    memory.durable_slot(hart, bank, u32::from(log.register_slot(register)))
 }
 
 /// What the registers resume with.

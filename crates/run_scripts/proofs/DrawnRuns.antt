@@ -15,7 +15,9 @@ use Rattle.machine_events.specs.declared.event.Event.TheVariants.{Step, Evict, C
 use Rattle.machine_events.specs.Cores.{IsValid}
 use Rattle.log_schemes.specs.Layout.{line_count, log_lines}
 use Rattle.log_schemes.specs.declared.log.Log.{Log}
-use Rattle.log_schemes.specs.declared.log.Log.TheVariants.{V1, V2}
+use Rattle.log_schemes.specs.declared.size.LogSize.{LogSize}
+use Rattle.log_schemes.specs.declared.size.LogSize.TheVariants.{Lines16, Lines32}
+use Rattle.log_schemes.specs.Schemes.{lines_of, size_of}
 use Rattle.run_scripts.specs.Draws.{crashes_at, drawn_event, drawn_line, drawn_mask, drawn_run, drawn_words, events_from}
 use Rattle.run_scripts.specs.Scripts.{IsEviction}
 
@@ -40,8 +42,11 @@ not_met crashes i k all within differs so_far =
 -- ---- Lines
 
 some_lines : (log : Log) (threads : ℕ) → 0 < threads → 0 < log_lines log * threads
-some_lines V1 threads some = omega (arith, some)
-some_lines V2 threads some = omega (arith, some)
+some_lines log threads some = by (size_of log)
+  where
+    by : (size : LogSize) → 0 < lines_of size * threads
+    by Lines16 = omega (arith, some)
+    by Lines32 = omega (arith, some)
 
 -- what is drawn of so many lines of the logs, and of those of the variables
 abbrev drawn_of : (logs lines k : ℕ) → ℕ

@@ -19,7 +19,9 @@ use Rattle.machine_events.specs.declared.event.Event.TheVariants as events
 use Rattle.machine_events.specs.Cores.{Behaviour, IsValid, IsValidNow, played}
 use Rattle.ido_base.specs.declared.limits.TheConstants.{MOST_THREADS}
 use Rattle.log_schemes.specs.declared.log.Log.{Log}
-use Rattle.log_schemes.specs.declared.log.Log.TheVariants.{V1, V2}
+use Rattle.log_schemes.specs.declared.size.LogSize.{LogSize}
+use Rattle.log_schemes.specs.declared.size.LogSize.TheVariants.{Lines16, Lines32}
+use Rattle.log_schemes.specs.Schemes as schemes
 use Rattle.log_schemes.specs.Layout.{line_count}
 use Rattle.run_scripts.specs.declared.script.Command.{Command}
 use Rattle.run_scripts.specs.declared.script.Command.TheVariants.{Steps, Point, Fence, Enabled, Evict, Crash, Start}
@@ -302,8 +304,11 @@ two_numbers : (a b : ℕ) → decimal a ++ codes " " ++ decimal b ≡ decimal a 
 two_numbers a b = append_assoc (decimal a) (codes " ") (decimal b) ∙ ap (λ xs. decimal a ++ 32 ∷ xs) (sym (append-nil (decimal b)))
 
 lines_few : (log : Log) (harts : ℕ) → harts ≤ MOST_THREADS → line_count log harts ≤ 2048
-lines_few V1 harts machine = omega (arith, machine)
-lines_few V2 harts machine = omega (arith, machine)
+lines_few log harts machine = by (schemes.size_of log)
+  where
+    by : (size : LogSize) → 1024 + schemes.lines_of size * harts ≤ 2048
+    by Lines16 = omega (arith, machine)
+    by Lines32 = omega (arith, machine)
 
 under : (n lines : ℕ) → n < lines → lines ≤ 2048 → n < 4294967296
 under n lines below most = omega (arith, below, most)

@@ -20,10 +20,7 @@ pub(crate) fn log_lines(log: Log, threads: u32) -> u64
     ensures some { threads ≤ result }
     ensures few { result ≤ 32 * threads }
 {
-    match log {
-        Log::V1 => u64::from(Log::V1.lines()) * u64::from(threads),
-        Log::V2 => u64::from(Log::V2.lines()) * u64::from(threads),
-    }
+    u64::from(log.lines()) * u64::from(threads)
 }
 
 /// The line that a word draws.

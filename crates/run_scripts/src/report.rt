@@ -96,7 +96,7 @@ pub fn numbers(alloc: Global, variables: &[Variable]) -> Result<Vec<i128>, OutOf
 }
 
 /// Adds bytes.
-pub(crate) fn put(report: &mut Vec<u8>, bytes: &[u8]) -> Result<(), OutOfMemory>
+pub fn put(report: &mut Vec<u8>, bytes: &[u8]) -> Result<(), OutOfMemory>
     ensures { OnOk result (report.new.items ≡ report.old.items ++ bytes.now) }
 {
     report.extend_from_slice(bytes)?;

@@ -26,3 +26,4 @@ mod LocalEvents
 mod LocalRuns
 mod LifeAfterSteps
 mod LocalInvariants
+mod Beginnings

@@ -1,7 +1,8 @@
 -- Where points stand.
 use Rattle.std.proofs.Common.{◌≡◌, ℕ, suc, ◌≤◌, ◌+◌, ◌-◌, ◌*◌, ◌/◌, Bool, true, false, nat_lt, if◌then◌else◌, refl, ap, ◌∙◌, arith, ◌<◌, length, sym, subst}
 use Rattle.std.proofs.lemmas.Bool.{ltb-true}
-use Rattle.log_schemes.specs.declared.log.Log.TheVariants.{V1, V2}
+use Rattle.log_schemes.specs.Schemes.{size_of}
+use Rattle.log_schemes.proofs.Public.{size_holds}
 use Rattle.log_schemes.specs.declared.log.Log.{Log}
 use Rattle.ido_base.specs.Layout.{logs_base, variables_base, byte_number}
 use Rattle.log_schemes.specs.Layout.{point_at, log_lines, line_count, word_count}
@@ -24,8 +25,7 @@ point_place log h = by_test (nat_lt (point_at log h) logs_base) refl
 
 -- a log has a line
 some_lines : (log : Log) → 0 < log_lines log
-some_lines V1 = omega arith
-some_lines V2 = omega arith
+some_lines log = (size_holds (size_of log)).lines
 
 -- rows of one length end where the next begins
 rows_end : (lines few more : ℕ) → lines * few + lines ≤ lines * (few + 1 + more)

@@ -1,5 +1,5 @@
 -- What runs ahead of a hart of a life: instructions that touch nothing but its registers and its pc, apart from the life.
-use Rattle.std.specs.Prelude.{◌≡◌, ℕ, ◌+◌, ◌-◌, ◌^◌, List, [], ◌++◌, slice_index_or, replicate, Option, is_some, Bool, nat_lt, ◌&&◌}
+use Rattle.std.specs.Prelude.{◌≡◌, ℕ, ◌+◌, ◌-◌, ◌^◌, List, [], ◌++◌, slice_get, slice_index_or, replicate, Option, Some, is_some, Bool, nat_lt, ◌&&◌}
 use Rattle.machine_events.specs.declared.event.Event.TheVariants.{Step}
 use Rattle.machine_model.specs.declared.phase.Phase.{Phase}
 use Rattle.machine_model.specs.Machine.{Hart}
@@ -7,7 +7,7 @@ use Rattle.machine_model.specs.Schedule.{is_running}
 use Rattle.hart_core.specs.declared.local.LocalState.{LocalState}
 use Rattle.hart_core.specs.LocalSteps.{PlacedCode, placed_code, local_run, then_locally}
 use Rattle.ido_machine.specs.Harts.{local_state_of}
-use Rattle.run_tracker.specs.ObjectLives.{Course, LifeConfig}
+use Rattle.run_tracker.specs.ObjectLives.{Course, LifeConfig, world_of}
 
 pub record LocalCourse : Type 0 where
   -- the hart's code, and the addresses of its marks
@@ -53,6 +53,10 @@ local_at life h hart = record {
 -- the hart is as it was at the beginning
 abbrev pub IsAtBeginning : LocalCourse → Hart → Type 0
 IsAtBeginning run hart = (run.phase ≡ hart.phase) × (run.first ≡ local_state_of hart)
+
+-- hart h of the life now is as it was at the beginning
+abbrev pub StandsAtBeginning : Course → (h : ℕ) → LocalCourse → Type 0
+StandsAtBeginning life h run = (hart : Hart) × (slice_get (world_of life).harts h ≡ Some hart) × IsAtBeginning run hart
 
 -- the life with so many steps of a hart more
 abbrev pub with_steps : Course → (h count : ℕ) → Course

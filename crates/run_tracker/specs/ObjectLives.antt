@@ -1,5 +1,6 @@
 -- The life of a compiled object: what it represents, and how it behaves as a core.
-use Rattle.std.specs.Prelude.{ℕ, ◌+◌, ◌*◌, ◌/◌, List, [], ◌∷◌, ◌++◌, length, map, take, drop, slice_get, slice_index_or, Bool, false, not, ◌&&◌, ◌==◌, Some, None}
+use Rattle.std.specs.Prelude.{ℕ, ◌+◌, ◌*◌, ◌/◌, List, [], ◌∷◌, ◌++◌, length, map, take, drop}
+use Rattle.std.specs.Prelude.{slice_get, slice_index_or, Bool, false, not, ◌&&◌, ◌==◌, Some, None}
 use Rattle.machine_events.specs.declared.event.Event.{Event}
 use Rattle.ido_base.specs.Words.{Word, durable_value}
 use Rattle.ido_base.specs.Layout.{variable_lines}
@@ -8,7 +9,8 @@ use Rattle.rv64_isa.specs.declared.object.Slot.{Slot}
 use Rattle.machine_model.specs.declared.object.Object.{Object}
 use Rattle.rv64_isa.specs.declared.object.Marks.{Marks}
 use Rattle.machine_model.specs.Executables.{Executable, executable_of}
-use Rattle.machine_model.specs.Machine.{World, IsEviction, can_start, has_stopped, after_event, after_events, reply_to, machine_start, machine_from, durable_point}
+use Rattle.machine_model.specs.Machine.{World, IsEviction, can_start, has_stopped, after_event, after_events, reply_to}
+use Rattle.machine_model.specs.Machine.{machine_start, machine_from, durable_point}
 use Rattle.machine_model.specs.Schedule.{Steps, LifeSchedules, only_life, stores_point, finishes_fence, first_steps, steps_along}
 
 -- ---- What a life is

@@ -6,7 +6,8 @@ ghost use Rattle.std.specs.Vec.{vec_capacity, vec_len};
 ghost use Rattle.ido_base.specs.Words.{word_at, live_value, durable_value};
 ghost use Rattle.log_schemes.specs.Layout.{line_count, log_words};
 ghost use Rattle.machine_events.specs.Cores.{point_stores, finished_fences, least_enabled, EachMoves};
-ghost use Rattle.machine_model.specs.Machine.{Hart, World, can_start, has_stopped, have_stopped, reply_to, numbers_from};
+ghost use Rattle.machine_model.specs.Machine.{Hart, World, can_start, has_stopped, have_stopped, reply_to};
+ghost use Rattle.log_schemes.specs.Schemes.{numbers_from};
 ghost use Rattle.ido_machine.specs.Machines.{RepresentsMachine, program_in, log_by, events_of};
 ghost use Rattle.machine_model.specs.Objects.{program_of};
 ghost use Rattle.machine_model.specs.Frames.{IsWellFormedWorld};
@@ -15,7 +16,7 @@ ghost use Rattle.machine_model.specs.Machine.{is_settled, is_settled_hart};
 ghost use Rattle.hart_core.specs.Objects.{IsWithinLimits};
 ghost use Rattle.run_tracker.specs.ObjectLives.{Course, new_life, life_at, life_from, with_event, world_of, steps_in, left_words, variable_words_in};
 ghost use Rattle.run_tracker.specs.ObjectLives.{IsValidIn, LifeConfig, ended_sections, is_stopped, living, opening_of};
-ghost use Rattle.run_tracker.specs.LocalRuns.{IsLocalOf, IsAtBeginning, local_at, with_steps};
+ghost use Rattle.run_tracker.specs.LocalRuns.{IsLocalOf, StandsAtBeginning, local_at, with_steps};
 ghost use Rattle.run_tracker.specs.links.AccountRepresentation.{ends_then, life_place};
 ghost use Rattle.run_tracker.specs.links.EarlierLives.{kept_count, lives_in};
 ghost use Rattle.run_tracker.specs.links.LifeParts.{is_start, may_persist};
@@ -447,6 +448,7 @@ impl Life {
         requires { hart < length self.now.runs.program }
         ensures hart { IfOk result (λ local. (it : Hart) → slice_get (world_of self.now).harts hart ≡ Some it → local ≡ local_at self.now hart it) }
         ensures own { IfOk result (λ local. IsLocalOf (opening_of self.now) hart local × (local.made ≡ 0)) }
+        ensures begins { IfOk result (λ local. StandsAtBeginning self.now hart local) }
     {
         Ok(LocalRun::new(
             self.marks.threads[hart as usize].nodes.to_vec(alloc)?,
@@ -462,6 +464,7 @@ impl Life {
         requires own { IsLocalOf (opening_of self.now) hart local.old }
         ensures hart { (it : Hart) → slice_get (world_of self.now).harts hart ≡ Some it → local.new ≡ local_at self.now hart it }
         ensures own { IsLocalOf (opening_of self.now) hart local.new × (local.new.made ≡ 0) }
+        ensures begins { StandsAtBeginning self.now hart local.new }
     {
         local.begin(self.machine.phase(hart), self.machine.local_state(hart));
     }
@@ -469,7 +472,7 @@ impl Life {
     /// The hart has the registers, the pc and the phase of the local's beginning.
     fn is_at(&self, hart: u32, local: &LocalRun) -> bool
         requires { hart < length self.now.runs.program }
-        ensures { (it : Hart) → slice_get (world_of self.now).harts hart ≡ Some it → IsTrue result ↔ IsAtBeginning local.now it }
+        ensures { IsTrue result ↔ StandsAtBeginning self.now hart local.now }
     {
         is_phase(self.machine.phase(hart), local.phase()) && self.machine.is_at(hart, local.first())
     }
@@ -480,7 +483,7 @@ impl Life {
         requires exists { hart < length self.old.runs.program }
         requires own { IsLocalOf (opening_of self.old) hart local.now }
         requires room { local.now.made ≤ self.old.cap - length self.old.journal }
-        ensures result { (it : Hart) → slice_get (world_of self.old).harts hart ≡ Some it → IsTrue result ↔ IsAtBeginning local.now it }
+        ensures result { IsTrue result ↔ StandsAtBeginning self.old hart local.now }
         ensures life { self.new ≡ (if result then with_steps self.old hart local.now.made else self.old) }
         ensures moves { OnTrue result (EachMoves living (opening_of self.old) self.old.journal hart local.now.made) }
     {
@@ -532,7 +535,7 @@ impl Core for Life {
     ghost use Rattle.std.specs.Prelude.{◌-◌, length};
     ghost use Rattle.machine_model.specs.Machine.{IsEviction};
     ghost use Rattle.run_tracker.specs.ObjectLives.{LifeConfig, living, opening_of};
-    ghost use Rattle.run_tracker.specs.LocalRuns.{IsLocalOf};
+    ghost use Rattle.run_tracker.specs.LocalRuns.{IsLocalOf, StandsAtBeginning, goes_ahead};
 
     ghost Meaning = { LifeConfig };
 
@@ -551,6 +554,10 @@ impl Core for Life {
     ghost is_local = { IsLocalOf };
 
     ghost ahead_by = { λ local. local.made };
+
+    ghost goes_ahead = { goes_ahead };
+
+    ghost is_at_beginning = { StandsAtBeginning };
 
     fn harts(&self) -> u32 {
         Life::harts(self)

@@ -9,7 +9,10 @@ use Rattle.std.proofs.lemmas.Option.{none-some, same_Some}
 use Rattle.log_schemes.specs.Layout.{bank_bytes, log_of}
 use Rattle.ido_base.specs.Locks.{locks_in}
 use Rattle.log_schemes.specs.declared.log.Log.{Log}
-use Rattle.log_schemes.specs.declared.log.Log.TheVariants.{V1, V2}
+use Rattle.log_schemes.specs.declared.keeping.Keeping.{Keeping}
+use Rattle.log_schemes.specs.declared.keeping.Keeping.TheVariants.{Masked, Listed}
+use Rattle.log_schemes.proofs.Public.{size_holds}
+use Rattle.boundary_code.proofs.Public.{base_small}
 use Rattle.c_tree.specs.Exprs as e
 use Rattle.c_tree.specs.HoldPrices.{hold_price, hold_prices}
 use Rattle.c_tree.specs.Prices.{key_nodes, nodes_of}
@@ -20,16 +23,17 @@ use Rattle.rv64_isa.specs.declared.instr.Instr.TheVariants.{Op, OpImmediate}
 use Rattle.rv64_isa.specs.declared.instr.ImmediateOperation.TheVariants.{Addi}
 use Rattle.rv64_isa.specs.declared.instr.Operation.TheVariants.{Add}
 use Rattle.operator_code.specs.StraightLineCode.{IsConstant}
-use Rattle.boundary_code.specs.Boundaries.{HaveRoom, lists_of, number_words, words_beside}
+use Rattle.boundary_code.specs.Boundaries.{fixed_words, lists_of, number_words, words_beside, words_for}
+use Rattle.log_schemes.specs.Schemes.{HasRoom, HaveRoom, keeping_of, size_of}
 use Rattle.expr_code.specs.EvaluationCode.{Homes, impure_among}
 use Rattle.expr_code.proofs.Public.{among_append, constant_none}
 use Rattle.node_code.specs.BoundaryCode.{IsQuiet}
-use Rattle.node_code.specs.Numbers.{LeaveLocks, LeaveNumbers}
-use Rattle.node_code.specs.Pieces.{MayKeep}
-use Rattle.thread_code.specs.Plans.{Plan, IsPlan, Thread, IsThread, IsNodeOf, held_names_before, homes, locks_before, names_in}
+use Rattle.node_code.specs.Numbers.{LeaveAs, LeaveLocks, LeaveNumbers}
+use Rattle.node_code.specs.Pieces.{MayKeep, MayKeepAs}
+use Rattle.thread_code.specs.Plans.{Plan, IsPlan, Thread, IsThread, IsNodeOf, held_names_before, homes, locks_before, names_in, words_held}
 use Rattle.rv64_codegen.specs.ThreadPieces.{MayEnter, boundary_words}
 use Rattle.rv64_codegen.specs.links.NumberedNames.{IsNumberedMore}
-use Rattle.rv64_codegen.specs.links.Numbers.{AreNumberCodes, IsCallBy, IsNumberBy, IsNumberCode}
+use Rattle.rv64_codegen.specs.links.Numbers.{AreCodesAs, AreNumberCodes, IsCallBy, IsNumberBy, IsNumberCode}
 use Rattle.rv64_codegen.proofs.NameNumbers.{held_leave}
 use Rattle.rv64_codegen.proofs.Pieces.{no_cleans, no_fences}
 use Rattle.rv64_codegen.proofs.PlannedNodes.{thread_below}
@@ -152,35 +156,50 @@ module _ (p : Plan) (t : Thread) (plan : IsPlan p) (th : IsThread p t) (formed :
   numbers_many : (locals : List ℤ) → length (locks_before p t locals node) ≡ length held
   numbers_many locals = length-map held (lock_number locals)
 
-  pub may_keep : (log : Log) (mask : ℕ) → (log ≡ V1 → (locals : List ℤ) → locks_in mask ≡ locks_before p t locals node) →
-      AreNumberCodes log h t.number held codes →
-      (locals : List ℤ) → MayKeep log mask codes (locks_before p t locals node)
-  may_keep V1 mask in_it are locals = sym (in_it refl locals)
-  may_keep V2 mask in_it are locals = numbers_many locals ∙ sym (as_many h are.0 held codes are.3)
+  keep_as : (k : Keeping) (mask : ℕ) → (k ≡ Masked → (locals : List ℤ) → locks_in mask ≡ locks_before p t locals node) →
+      AreCodesAs k p.log h t.number held codes → (locals : List ℤ) → MayKeepAs k mask codes (locks_before p t locals node)
+  keep_as Masked mask in_it are locals = sym (in_it refl locals)
+  keep_as Listed mask in_it are locals = numbers_many locals ∙ sym (as_many h are.0 held codes are.3)
 
-  pub leave_them : (log : Log) → p.log ≡ log → AreNumberCodes log h t.number held codes → (locals : List ℤ) (x : List ℕ) → MayEnter p t locals node x →
-      LeaveLocks log t.number (locks_before p t locals node) codes x
-  leave_them V1 is are locals x may = tt
-  leave_them V2 is are locals x may =
+  pub may_keep : (mask : ℕ) → (keeping_of p.log ≡ Masked → (locals : List ℤ) → locks_in mask ≡ locks_before p t locals node) →
+      AreNumberCodes p.log h t.number held codes → (locals : List ℤ) → MayKeep p.log mask codes (locks_before p t locals node)
+  may_keep mask in_it are locals = keep_as (keeping_of p.log) mask in_it are locals
+
+  leave_as : (k : Keeping) → AreCodesAs k p.log h t.number held codes → (locals : List ℤ) (x : List ℕ) → MayEnter p t locals node x →
+      LeaveAs k p.log t.number (locks_before p t locals node) codes x
+  leave_as Masked are locals x may = tt
+  leave_as Listed are locals x may =
       let low = thread_below p plan t th in
-      let reach : (bank : ℕ) → bank < 2 → log_of p.log t.number + bank_bytes p.log * bank < 2 ^ 32 = λ bank below.
-      subst (λ (l : Log). log_of l t.number + bank_bytes l * bank < 2 ^ 32) (sym is) (omega (arith, low, below)) in
-      let is_log : IsConstant 31 (log_of p.log t.number) are.0 = subst (λ (l : Log). IsConstant 31 (log_of l t.number) are.0) (sym is) are.1 in
+      let reach : (bank : ℕ) → bank < 2 → log_of p.log t.number + bank_bytes p.log * bank < 2 ^ 32 = λ bank below. base_small p.log t.number bank low below in
       let few : length p.flat.mutexes ≤ 1024 = (let m = plan.formed.shared.mutexes in omega (arith, m)) in
       let left : LeaveNumbers p.log t.number x (locks_before p t may.seen.locals node) codes =
-      held_leave p t plan th may.seen x few reach are.0 is_log node may.side codes own may.enters
+      held_leave p t plan th may.seen x few reach are.0 are.1 node may.side codes own may.enters
       (λ k y there holds_it. all_get (IsFlatLockName p.flat.mutexes t.kinds) (names_in p t) formed k y there) are.3 in
-      subst (λ (l : Log). LeaveNumbers l t.number x (locks_before p t locals node) codes) is
-      (subst (λ (ls : List ℤ). LeaveNumbers p.log t.number x (locks_before p t ls node) codes) may.locals_are left)
+      subst (λ (ls : List ℤ). LeaveNumbers p.log t.number x (locks_before p t ls node) codes) may.locals_are left
 
-  pub few_codes : (log : Log) → AreNumberCodes log h t.number held codes → HaveRoom log (locks_before p t [] node) → length codes ≤ 16
-  few_codes V1 are room = let none : length codes ≡ 0 = ap (λ (cs : List (List Instr)). length cs) are in omega (arith, none)
-  few_codes V2 are room = let many = as_many h are.0 held codes are.3 in let same = numbers_many [] in omega (arith, many, same, room)
+  pub leave_them : AreNumberCodes p.log h t.number held codes → (locals : List ℤ) (x : List ℕ) → MayEnter p t locals node x →
+      LeaveLocks p.log t.number (locks_before p t locals node) codes x
+  leave_them are locals x may = leave_as (keeping_of p.log) are locals x may
 
-  pub few_words : (log : Log) → AreNumberCodes log h t.number held codes → words_beside log codes ≤ boundary_words log held
-  few_words V1 are = omega arith
-  few_words V2 are = let words = within_prices h are.0 are.2 held codes are.3 in omega (arith, words)
+  few_as : (k : Keeping) → AreCodesAs k p.log h t.number held codes → HasRoom k (locks_before p t [] node) → length codes ≤ 16
+  few_as Masked are room = let none : length codes ≡ 0 = ap (λ (cs : List (List Instr)). length cs) are in omega (arith, none)
+  few_as Listed are room = let many = as_many h are.0 held codes are.3 in let same = numbers_many [] in omega (arith, many, same, room)
 
-  pub quiet_codes : (log : Log) → AreNumberCodes log h t.number held codes → AllByRecursion IsQuiet codes
-  quiet_codes V1 are = subst (λ (cs : List (List Instr)). AllByRecursion IsQuiet cs) (sym are) tt
-  quiet_codes V2 are = quiet_all h are.0 (log_of V2 t.number) are.1 held codes are.3
+  pub few_codes : AreNumberCodes p.log h t.number held codes → HaveRoom p.log (locks_before p t [] node) → length codes ≤ 16
+  few_codes are room = few_as (keeping_of p.log) are room
+
+  words_as : (k : Keeping) → AreCodesAs k p.log h t.number held codes → fixed_words p.log + words_for k codes ≤ 72 + words_held k held
+  words_as Masked are = let few = (size_holds (size_of p.log)).few_in_bank in omega (arith, few)
+  words_as Listed are =
+      let few = (size_holds (size_of p.log)).few_in_bank in
+      let words = within_prices h are.0 are.2 held codes are.3 in omega (arith, words, few)
+
+  pub few_words : AreNumberCodes p.log h t.number held codes → words_beside p.log codes ≤ boundary_words p.log held
+  few_words are = words_as (keeping_of p.log) are
+
+  quiet_as : (k : Keeping) → AreCodesAs k p.log h t.number held codes → AllByRecursion IsQuiet codes
+  quiet_as Masked are = subst (λ (cs : List (List Instr)). AllByRecursion IsQuiet cs) (sym are) tt
+  quiet_as Listed are = quiet_all h are.0 (log_of p.log t.number) are.1 held codes are.3
+
+  pub quiet_codes : AreNumberCodes p.log h t.number held codes → AllByRecursion IsQuiet codes
+  quiet_codes are = quiet_as (keeping_of p.log) are

@@ -7,7 +7,9 @@ use Rattle.std.proofs.lemmas.List.Sums.{sum_by-cons}
 use Rattle.std.proofs.lemmas.Option.{get_or_from_slice_get}
 use Rattle.ido_base.specs.declared.place.Place.{Place}
 use Rattle.log_schemes.specs.declared.log.Log.{Log}
-use Rattle.log_schemes.specs.declared.log.Log.TheVariants.{V1, V2}
+use Rattle.log_schemes.specs.declared.keeping.Keeping.{Keeping}
+use Rattle.log_schemes.specs.declared.keeping.Keeping.TheVariants.{Masked, Listed}
+use Rattle.log_schemes.specs.Schemes.{keeping_of}
 use Rattle.ido_ints.specs.declared.kinds.Kind.{Kind}
 use Rattle.c_tree.specs.Exprs as e
 use Rattle.c_tree.specs.Programs.{Variable}
@@ -23,7 +25,7 @@ use Rattle.flow_graph.specs.Nodes.{End, Node}
 use Rattle.flow_graph.specs.Lowering.{Table, table_of, count, statements_count, arms_count, entry, statement_nodes, statements_nodes, arms_nodes}
 use Rattle.flow_graph.specs.Lowering.{thread_nodes, plain_node, test_node}
 use Rattle.flow_graph.proofs.Public.{all_at, found_in, length-arms_nodes, length-statement_nodes, length-statements_nodes}
-use Rattle.thread_code.specs.Plans.{Plan, IsPlan, Thread, IsThread, hold_words, language_of, names_in, set_before}
+use Rattle.thread_code.specs.Plans.{Plan, IsPlan, Thread, IsThread, language_kept, language_of, names_in, set_before, words_held}
 use Rattle.thread_code.specs.Programs.{names_kept}
 use Rattle.thread_code.proofs.Public.{names_are}
 use Rattle.rv64_codegen.proofs.LoweredNodes.{price_of, prices, price_thread}
@@ -91,23 +93,29 @@ module _ (x : f.Flat) (ks : List Kind) (vs : List Variable) (names : List e.Lock
 
 module _ (p : Plan) (t : Thread) where
   -- what a node may take where the log is this one
+  abbrev pub cost_as : Keeping → Node → (node : ℕ) → ℕ
+  cost_as keeping n node = price_of n + words_held keeping (names_kept p t n.action node)
+
   abbrev pub cost_of : Log → Node → (node : ℕ) → ℕ
-  cost_of log n node = price_of n + hold_words log (names_kept p t n.action node)
+  cost_of log n node = cost_as (keeping_of log) n node
+
+  abbrev pub costs_as : Keeping → List Node → (first : ℕ) → ℕ
+  costs_as keeping [] first = 0
+  costs_as keeping (n ∷ ns) first = cost_as keeping n first + costs_as keeping ns (suc first)
 
   abbrev pub costs : Log → List Node → (first : ℕ) → ℕ
-  costs log [] first = 0
-  costs log (n ∷ ns) first = cost_of log n first + costs log ns (suc first)
+  costs log ns first = costs_as (keeping_of log) ns first
 
   -- what the locks cost that they keep
   abbrev kept_costs : List Node → (first : ℕ) → ℕ
   kept_costs [] first = 0
   kept_costs (n ∷ ns) first = hold_prices (names_kept p t n.action first) + kept_costs ns (suc first)
 
-  costs_plain : (ns : List Node) (first : ℕ) → costs V1 ns first ≡ prices ns
+  costs_plain : (ns : List Node) (first : ℕ) → costs_as Masked ns first ≡ prices ns
   costs_plain [] first = omega arith
   costs_plain (n ∷ ns) first = omega (arith, sum_by-cons price_of n ns, costs_plain ns (suc first))
 
-  costs_full : (ns : List Node) (first : ℕ) → costs V2 ns first ≡ prices ns + kept_costs ns first
+  costs_full : (ns : List Node) (first : ℕ) → costs_as Listed ns first ≡ prices ns + kept_costs ns first
   costs_full [] first = omega arith
   costs_full (n ∷ ns) first = omega (arith, sum_by-cons price_of n ns, costs_full ns (suc first))
 
@@ -290,11 +298,11 @@ module _ (p : Plan) (t : Thread) where
         (all_before (thread_sets names th.text) t.part.first (λ k h there. at_step k h
         (subst (λ (ns : List e.LockName). slice_get (thread_sets ns th.text) k ≡ Some h) (sym its_names) there)))
 
-    costs_few : (log : Log) → costs log (thread_nodes (table_of p.flat th.text) th.text t.part.first) t.part.first ≤ full_price (language_of log) p.flat th.text
-    costs_few V1 =
+    costs_few : (k : Keeping) → costs_as k (thread_nodes (table_of p.flat th.text) th.text t.part.first) t.part.first ≤ full_price (language_kept k) p.flat th.text
+    costs_few Masked =
         let ns : List Node = thread_nodes (table_of p.flat th.text) th.text t.part.first in
         omega (arith, costs_plain ns t.part.first, price_thread (table_of p.flat th.text) th.text t.part.first)
-    costs_few V2 =
+    costs_few Listed =
         let ns : List Node = thread_nodes (table_of p.flat th.text) th.text t.part.first in
         let same : thread_hold names th.text ≡ thread_hold (lock_names p.flat th.text) th.text =
         ap (λ (xs : List e.LockName). thread_hold xs th.text) (names_are p t th) in
@@ -302,4 +310,4 @@ module _ (p : Plan) (t : Thread) where
 
     -- what the thread's nodes may take, whatever the log
     pub thread_costs : costs p.log (thread_nodes (table_of p.flat th.text) th.text t.part.first) t.part.first ≤ full_price (language_of p.log) p.flat th.text
-    thread_costs = costs_few p.log
+    thread_costs = costs_few (keeping_of p.log)

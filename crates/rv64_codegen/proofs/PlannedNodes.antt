@@ -6,7 +6,8 @@ use Rattle.std.specs.Option.{option_map}
 use Rattle.std.proofs.lemmas.Option.{slice_get_within, get_or_from_slice_get}
 use Rattle.std.proofs.lemmas.List.Sums.{sum_by-cons}
 use Rattle.ido_base.specs.declared.location.Location.{Location}
-use Rattle.log_schemes.specs.declared.log.Log.TheVariants.{V1}
+use Rattle.log_schemes.specs.declared.keeping.Keeping.TheVariants.{Masked}
+use Rattle.log_schemes.specs.Schemes.{keeping_of}
 use Rattle.ido_base.specs.declared.limits.TheConstants.{MOST_PRICE, MOST_THREADS}
 use Rattle.c_tree.specs.Exprs as e
 use Rattle.c_tree.specs.Flats as f
@@ -262,7 +263,7 @@ module _ (p : Plan) (plan : IsPlan p) where
         ∙ ap (λ (ns : List LockName). length ns) (sym (names_are p t th)) in
         ap (λ (h : Held). length h) set ∙ long
 
-    module _ (masks : p.log ≡ V1) where
+    module _ (masks : keeping_of p.log ≡ Masked) where
       -- where threads log with masks a set has a name for each mutex
       plain_long : (node : ℕ) → IsNodeOf t node → length (set_before p t node) ≡ length p.flat.mutexes
       plain_long node own =

@@ -2,7 +2,8 @@
 ghost use Rattle.std.specs.Prelude.{◌≡◌, ◌<◌, ◌-◌, IfOk};
 ghost use Rattle.lock_discipline.specs.Masks.{mask_of};
 ghost use Rattle.boundary_code.specs.Boundaries.{lists_of};
-ghost use Rattle.log_schemes.specs.declared.log.Log.TheVariants.{V1, V2};
+ghost use Rattle.log_schemes.specs.declared.keeping.Keeping.TheVariants.{Listed, Masked};
+ghost use Rattle.log_schemes.specs.Schemes.{keeping_of};
 ghost use Rattle.thread_code.specs.Plans.{set_before};
 ghost use Rattle.rv64_codegen.specs.links.Threads.{IsOwn, IsKeptFor, AreNumbersOf, plan_in, thread_of};
 
@@ -14,7 +15,7 @@ use flow_graph::graph::Part;
 use ido_base::memory::OutOfMemory;
 use lock_discipline::mask_of;
 use log_schemes::addresses::log_of;
-use log_schemes::log::Log;
+use log_schemes::keeping::Keeping;
 use node_code::Kept;
 use operator_code::constant::constant;
 use rv64_isa::field::Register;
@@ -51,12 +52,12 @@ impl ThreadPlan<'_, '_> {
     /// Of each lock that is held at a node code that leaves its number, for a log that lists locks.
     fn listed(&self, alloc: Global, node: usize) -> Result<Vec<Vec<Instr>>, OutOfMemory>
         requires own { IsOwn self.now node }
-        requires log { (plan_in self.now).log ≡ V2 }
+        requires keeping { keeping_of (plan_in self.now).log ≡ Listed }
         ensures { IfOk result (λ codes. AreNumbersOf self.now node (lists_of codes.items)) }
     {
         let step = node - self.part.first;
         let held = self.plan.held.before(self.number, step as u32);
-        let log = constant(alloc, Register::X31, log_of(Log::V2, self.number))?;
+        let log = constant(alloc, Register::X31, log_of(self.plan.log, self.number))?;
         let codes = held_numbers(alloc, &self.frame, &log, self.names, held)?;
         Ok(codes)
     }
@@ -66,24 +67,24 @@ impl ThreadPlan<'_, '_> {
         requires { IsOwn self.now node }
         ensures { IfOk result (λ codes. AreNumbersOf self.now node (lists_of codes.items)) }
     {
-        match self.plan.log {
-            Log::V1 => Ok(Vec::new(alloc)),
-            Log::V2 => self.listed(alloc, node),
+        match self.plan.log.keeping() {
+            Keeping::Masked => Ok(Vec::new(alloc)),
+            Keeping::Listed => self.listed(alloc, node),
         }
     }
 
     /// The mutexes that are held at a node, bit i for mutex i, where the log keeps a mask; 0 where it lists locks.
     fn mask(&self, node: usize) -> u64
         requires { IsOwn self.now node }
-        ensures masks { (plan_in self.now).log ≡ V1 → result ≡ mask_of (set_before (plan_in self.now) (thread_of self.now) node) }
-        ensures lists { (plan_in self.now).log ≡ V2 → result ≡ 0 }
+        ensures masks { keeping_of (plan_in self.now).log ≡ Masked → result ≡ mask_of (set_before (plan_in self.now) (thread_of self.now) node) }
+        ensures lists { keeping_of (plan_in self.now).log ≡ Listed → result ≡ 0 }
     {
-        match self.plan.log {
-            Log::V1 => {
+        match self.plan.log.keeping() {
+            Keeping::Masked => {
                 let step = node - self.part.first;
                 mask_of(self.plan.held.before(self.number, step as u32))
             }
-            Log::V2 => 0,
+            Keeping::Listed => 0,
         }
     }
 

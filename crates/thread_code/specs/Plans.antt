@@ -2,7 +2,8 @@
 use Rattle.std.specs.Prelude.{◌≡◌, ◌↔◌, ℕ, ◌+◌, ◌-◌, ◌<◌, ◌≤◌, List, [], ◌∷◌, map, length, slice_get}
 use Rattle.std.specs.Prelude.{slice_index, slice_index_or, Contains, Some, None, Bool, true, ℤ, if◌then◌else◌}
 use Rattle.log_schemes.specs.declared.log.Log.{Log}
-use Rattle.log_schemes.specs.declared.log.Log.TheVariants.{V1, V2}
+use Rattle.log_schemes.specs.declared.keeping.Keeping.{Keeping}
+use Rattle.log_schemes.specs.declared.keeping.Keeping.TheVariants.{Masked, Listed}
 use Rattle.ido_base.specs.Layout.{variable_at}
 use Rattle.ido_ints.specs.declared.kinds.Kind.{Kind}
 use Rattle.c_tree.specs.Flats as f
@@ -16,7 +17,7 @@ use Rattle.c_tree.specs.Values.{lock_number}
 use Rattle.c_tree.specs.LockDiscipline.{key_locals, numbers_below}
 use Rattle.memory_layout.specs.declared.roles.TheConstants.{LOCALS}
 use Rattle.memory_layout.specs.Roles.{pending_address, pending_value}
-use Rattle.boundary_code.specs.Boundaries.{HaveRoom}
+use Rattle.log_schemes.specs.Schemes.{HaveRoom, keeping_of}
 use Rattle.lock_discipline.specs.HeldSetsByStep.{AreAllSetsOf}
 use Rattle.flow_graph.specs.declared.graph.Part.{Part}
 use Rattle.flow_graph.specs.Nodes.{Graph}
@@ -103,14 +104,20 @@ locks_before p t locals node = map (lock_number locals) (held_names_before p t n
 -- ---- What it costs to keep them
 
 -- a log that lists its locks is one of programs with arrays of mutexes, where what is held has a price
+abbrev pub language_kept : Keeping → Language
+language_kept Masked = Plain
+language_kept Listed = Full
+
 abbrev pub language_of : Log → Language
-language_of V1 = Plain
-language_of V2 = Full
+language_of log = language_kept (keeping_of log)
 
 -- how many words the code of these locks may have in a boundary: where the log has a mask, none
+abbrev pub words_held : Keeping → List LockName → ℕ
+words_held Masked names = 0
+words_held Listed names = hold_prices names
+
 abbrev pub hold_words : Log → List LockName → ℕ
-hold_words V1 names = 0
-hold_words V2 names = hold_prices names
+hold_words log names = words_held (keeping_of log) names
 
 -- ---- Registers to keep
 
@@ -142,7 +149,7 @@ pub record IsPlan (p : Plan) : Type 0 where
   pub registers : AreRegisters p.graph p.colours
   pub apart : HasNoClash p.graph p.colours
   -- where threads log with masks no mutex is in an array
-  pub plain : p.log ≡ V1 → ArePlain p.flat.mutexes
+  pub plain : keeping_of p.log ≡ Masked → ArePlain p.flat.mutexes
   -- no thread's price is too high
   pub priced : price_fault (language_of p.log) p.flat ≡ None
   -- a bank of the threads' logs has room for the locks that are held before each node

@@ -1,17 +1,24 @@
 -- What a boundary does to memory, it may do, and it is apart from variables.
-use Rattle.std.proofs.Common.{◌-◌, ◌≡◌, inl, ℕ, zero, suc, ◌+◌, ◌*◌, ◌/◌, ◌%◌, ◌^◌, ◌<◌, ◌≤◌, List}
+use Rattle.std.proofs.Common.{◌-◌, ◌≡◌, inl, inr, sym, ℕ, zero, suc, ◌+◌, ◌*◌, ◌/◌, ◌%◌, ◌^◌, ◌<◌, ◌≤◌, List}
 use Rattle.std.proofs.Common.{[], ◌∷◌, ◌++◌, length, map, refl, ap, arith, subst, Bool, true}
 use Rattle.std.proofs.Common.{false}
 use Rattle.std.specs.Prelude.{◌==◌, ◌&&◌, ◌||◌, nat_le, Contains}
 use Rattle.std.specs.List.{list_any, filter}
 use Rattle.std.proofs.lemmas.Bool.{cond_both, le-leb}
-use Rattle.log_schemes.specs.declared.log.Log.TheVariants.{V1, V2}
+use Rattle.log_schemes.specs.declared.keeping.Keeping.{Keeping}
+use Rattle.log_schemes.specs.declared.keeping.Keeping.TheVariants.{Masked, Listed}
+use Rattle.log_schemes.specs.declared.size.LogSize.{LogSize}
+use Rattle.log_schemes.specs.declared.size.LogSize.TheVariants.{Lines16, Lines32}
+use Rattle.ido_base.specs.Locks.{mask_with}
+use Rattle.log_schemes.proofs.Public.{contains_cases, contains_first, contains_later, contains_none, is_listed, line_below, register_exists, scheme, size_holds}
 use Rattle.log_schemes.specs.declared.log.Log.{Log}
 use Rattle.ido_base.specs.Layout.{line_bytes, aligned, logs_base, variables_base}
-use Rattle.log_schemes.specs.Layout.{bank_slots, log_lines, in_range, point_at, slot_at}
+use Rattle.log_schemes.specs.Layout.{log_lines, in_range, point_at, slot_at}
+use Rattle.log_schemes.specs.Schemes.{HasRoom, HaveRoom, bank_distance, bank_lines, bank_slots, keeping_of, kept_as, kept_locks, lines_in_bank, lines_of}
+use Rattle.log_schemes.specs.Schemes.{listed_from, register_slot, size_of}
 use Rattle.rv64_isa.specs.Rows.{Effect, Continues, Loads, Stores, Cleans, Fences, Calls, read}
 use Rattle.boundary_code.specs.Boundaries.{Boundary, boundary_effects, bank_effects, commit_effects, lines_in_use, is_empty}
-use Rattle.boundary_code.specs.Boundaries.{HaveRoom, bank_lines, kept_locks, listed_from, slots_kept}
+use Rattle.boundary_code.specs.Boundaries.{slots_kept}
 use Rattle.code_runs.specs.CodeTraces.{MarkedEnvironment, seen_effects}
 use Rattle.hart_runs.specs.HartsOnRuns.{is_access, MayGo}
 use Rattle.thread_runs.specs.CodeFragments.{AreEffectsApart, ReadsVariables}
@@ -42,27 +49,37 @@ log_access : (log : Log) (threads address : ℕ) → AreOfLog log threads addres
 log_access log threads address l e =
     both_true (in_range log threads address 8) (aligned address 8) (log_in_range log threads address 8 l) (ap (λ (n : ℕ). n == 0) e)
 
+slot_sized : (size : LogSize) (threads thread bank slot bytes : ℕ) → thread < threads → bank < 2 → slot < 8 * lines_in_bank size → bytes ≤ 8 →
+    64 * lines_of size * thread + 64 + bank_distance size * bank + 8 * slot + bytes ≤ 64 * lines_of size * threads
+slot_sized Lines16 threads thread bank slot bytes t b s c = omega (arith, t, b, s, c)
+slot_sized Lines32 threads thread bank slot bytes t b s c = omega (arith, t, b, s, c)
+
 slot_of_log : (log : Log) (threads thread bank slot bytes : ℕ) → thread < threads → bank < 2 → slot < bank_slots log → bytes ≤ 8 →
     AreOfLog log threads (slot_at log thread bank slot) bytes
-slot_of_log V1 threads thread bank slot bytes t b s c = record { from_base = omega (arith, t, b, s); to_end = omega (arith, t, b, s, c) }
-slot_of_log V2 threads thread bank slot bytes t b s c = record { from_base = omega (arith, t, b, s); to_end = omega (arith, t, b, s, c) }
+slot_of_log log threads thread bank slot bytes t b s c =
+    let within = slot_sized (size_of log) threads thread bank slot bytes t b s c in record { from_base = omega arith; to_end = omega (arith, within) }
+
+aligned_sized : (size : LogSize) (thread bank slot : ℕ) → (0x2000_0000 + 64 * lines_of size * thread + 64 + bank_distance size * bank + 8 * slot) % 8 ≡ 0
+aligned_sized Lines16 thread bank slot = omega arith
+aligned_sized Lines32 thread bank slot = omega arith
 
 slot_aligned : (log : Log) (thread bank slot : ℕ) → slot_at log thread bank slot % 8 ≡ 0
-slot_aligned V1 thread bank slot = omega arith
-slot_aligned V2 thread bank slot = omega arith
+slot_aligned log thread bank slot = aligned_sized (size_of log) thread bank slot
+
+point_sized : (size : LogSize) (threads thread bytes : ℕ) → thread < threads → bytes ≤ 8 → 64 * lines_of size * thread + bytes ≤ 64 * lines_of size * threads
+point_sized Lines16 threads thread bytes t c = omega (arith, t, c)
+point_sized Lines32 threads thread bytes t c = omega (arith, t, c)
 
 point_of_log : (log : Log) (threads thread bytes : ℕ) → thread < threads → bytes ≤ 8 → AreOfLog log threads (point_at log thread) bytes
-point_of_log V1 threads thread bytes t c = record { from_base = omega (arith, t); to_end = omega (arith, t, c) }
-point_of_log V2 threads thread bytes t c = record { from_base = omega (arith, t); to_end = omega (arith, t, c) }
+point_of_log log threads thread bytes t c =
+    let within = point_sized (size_of log) threads thread bytes t c in record { from_base = omega arith; to_end = omega (arith, within) }
+
+point_aligned_sized : (size : LogSize) (thread : ℕ) → (0x2000_0000 + 64 * lines_of size * thread) % 8 ≡ 0
+point_aligned_sized Lines16 thread = omega arith
+point_aligned_sized Lines32 thread = omega arith
 
 point_aligned : (log : Log) (thread : ℕ) → point_at log thread % 8 ≡ 0
-point_aligned V1 thread = omega arith
-point_aligned V2 thread = omega arith
-
--- registers have slots
-register_slot : (log : Log) (register : ℕ) → register < 32 → register < bank_slots log
-register_slot V1 register below = below
-register_slot V2 register below = omega (arith, below)
+point_aligned log thread = point_aligned_sized (size_of log) thread
 
 -- ---- Effects on logs
 
@@ -144,22 +161,37 @@ module _ (log : Log) (threads thread bank : ℕ) (t : thread < threads) (b : ban
       (λ (ls : List ℕ). AreOnLog log threads (map (λ line. Cleans (slot_at log thread bank (8 * line))) ls))
       (λ _. (clean_on_log line h.0, cleans_on_log f lines h.1)) (λ _. cleans_on_log f lines h.1)
 
-all_lines : (log : Log) (threads thread bank : ℕ) (t : thread < threads) (b : bank < 2) → AreLines log threads thread bank t b (bank_lines log)
+lines_are : (log : Log) (threads thread bank : ℕ) (t : thread < threads) (b : bank < 2) (lines : List ℕ) →
+    ((line : ℕ) → Contains lines line → 8 * line < bank_slots log) → AreLines log threads thread bank t b lines
 unfolding AreLines
-all_lines V1 threads thread bank t b = (omega arith, (omega arith, (omega arith, (omega arith, tt))))
-all_lines V2 threads thread bank t b = (omega arith, (omega arith, (omega arith, (omega arith, (omega arith, (omega arith, tt))))))
+lines_are log threads thread bank t b [] h = tt
+lines_are log threads thread bank t b (line ∷ lines) h =
+    (h line (contains_first line lines), lines_are log threads thread bank t b lines (λ l c. h l (contains_later line lines l c)))
+
+all_lines : (log : Log) (threads thread bank : ℕ) (t : thread < threads) (b : bank < 2) → AreLines log threads thread bank t b (bank_lines log)
+all_lines log threads thread bank t b =
+    lines_are log threads thread bank t b (bank_lines log) (λ line c. let below = line_below log line c in omega (arith, below))
 
 -- the slots that keep locks are the bank's
-listed_below : (slot : ℕ) (locks : List ℕ) (kept : ℕ × ℕ) → Contains (listed_from slot locks) kept → kept.0 < slot + length locks
-listed_below slot [] kept c = absurd (let n : c.0 < 0 = c.1 in omega (arith, n))
-listed_below slot (lock ∷ locks) kept (zero, below, is) = let same : slot ≡ kept.0 = ap (λ (one : ℕ × ℕ). one.0) is in omega (arith, same)
-listed_below slot (lock ∷ locks) kept (suc n, below, is) = let more = listed_below (slot + 1) locks kept (n, omega (arith, below), is) in omega (arith, more)
+module _ (log : Log) (locks : List ℕ) (kept : ℕ × ℕ) where
+  first_slot : kept.0 ≡ 0 → kept.0 < bank_slots log
+  first_slot none = let some = (size_holds (size_of log)).some in omega (arith, none, some)
+
+  slots_kept_as : (k : Keeping) → keeping_of log ≡ k → HasRoom k locks → Contains (kept_as k log locks) kept → kept.0 < bank_slots log
+  slots_kept_as Masked is room c = elim (contains_cases (0, mask_with locks) [] kept c) [
+    | inl e ↦ first_slot (ap (λ (one : ℕ × ℕ). one.0) e)
+    | inr none ↦ absurd (contains_none kept none)
+  ]
+  slots_kept_as Listed is room c = elim (contains_cases (0, length locks) (listed_from log 0 locks) kept c) [
+    | inl e ↦ first_slot (ap (λ (one : ℕ × ℕ). one.0) e)
+    | inr more ↦
+        let one = is_listed log 0 locks kept more in
+        let below = one.below in
+        subst (λ (n : ℕ). n < bank_slots log) (sym one.slot_is) ((scheme log).apart.lock (0 + one.place) is (omega (arith, below, room))).exists
+  ]
 
 locks_have_slots : (log : Log) (locks : List ℕ) → HaveRoom log locks → (kept : ℕ × ℕ) → Contains (kept_locks log locks) kept → kept.0 < bank_slots log
-locks_have_slots V1 locks room kept (zero, below, is) = let same : 0 ≡ kept.0 = ap (λ (one : ℕ × ℕ). one.0) is in omega (arith, same)
-locks_have_slots V1 locks room kept (suc n, below, is) = absurd (omega (arith, below))
-locks_have_slots V2 locks room kept (zero, below, is) = let same : 0 ≡ kept.0 = ap (λ (one : ℕ × ℕ). one.0) is in omega (arith, same)
-locks_have_slots V2 locks room kept (suc n, below, is) = let l = listed_below 32 locks kept (n, omega (arith, below), is) in omega (arith, l, room)
+locks_have_slots log locks room kept c = slots_kept_as log locks kept (keeping_of log) refl room c
 
 commit_on_log : (log : Log) (threads thread point : ℕ) → thread < threads → AreOnLog log threads (commit_effects log thread point)
 unfolding AreOnLog OnLog
@@ -183,7 +215,8 @@ boundary_on_log threads b side resume x t room live =
     (both_on_log b.log threads locks registers
     (stores_on_log b.log threads b.thread (1 - side) t k (λ (kept : ℕ × ℕ). kept.0) (λ (kept : ℕ × ℕ). kept.1) (kept_locks b.log b.locks)
     (locks_have_slots b.log b.locks room))
-    (stores_on_log b.log threads b.thread (1 - side) t k (λ (r : ℕ). r) (λ (r : ℕ). read x r) b.live (λ r c. register_slot b.log r (live r c))))
+    (stores_on_log b.log threads b.thread (1 - side) t k (register_slot b.log) (λ (r : ℕ). read x r) b.live
+    (λ r c. register_exists b.log r (live r c))))
     (cleans_on_log b.log threads b.thread (1 - side) t k (λ line. list_any (λ slot. slot / 8 == line) (slots_kept b.log b.locks b.live)) (bank_lines b.log)
     (all_lines b.log threads b.thread (1 - side) t k)))
     (commit_on_log b.log threads b.thread ((resume + (1 - side)) % 2 ^ 64) t))
@@ -195,7 +228,7 @@ boundary_on_log threads b side resume x t room live =
     locks = map (λ (kept : ℕ × ℕ). Stores (slot_at b.log b.thread (1 - side) kept.0) 8 kept.1) (kept_locks b.log b.locks)
 
     registers : List Effect
-    registers = map (λ r. Stores (slot_at b.log b.thread (1 - side) r) 8 (read x r)) b.live
+    registers = map (λ r. Stores (slot_at b.log b.thread (1 - side) (register_slot b.log r)) 8 (read x r)) b.live
 
     lines : List Effect
     lines = map (λ line. Cleans (slot_at b.log b.thread (1 - side) (8 * line))) (lines_in_use b.log (slots_kept b.log b.locks b.live))

@@ -3,11 +3,12 @@ use Rattle.std.proofs.Common.{◌-◌, ◌≡◌, ℕ, suc, ◌+◌, ◌*◌, �
 use Rattle.std.specs.Prelude.{filter, ◌==◌, ◌/◌, if◌then◌else◌}
 use Rattle.std.specs.List.{list_any}
 use Rattle.log_schemes.specs.declared.log.Log.{Log}
-use Rattle.log_schemes.specs.declared.log.Log.TheVariants.{V1, V2}
+use Rattle.log_schemes.proofs.Public.{few_lines}
 use Rattle.log_schemes.specs.Layout.{slot_at}
 use Rattle.rv64_isa.specs.Rows.{Effect, Stores, Cleans, read}
 use Rattle.code_runs.specs.CodeTraces.{seen_effects}
-use Rattle.boundary_code.specs.Boundaries.{Boundary, bank_lines, kept_locks, slots_kept, lines_in_use, bank_effects, commit_effects, boundary_effects, is_empty}
+use Rattle.boundary_code.specs.Boundaries.{Boundary, slots_kept, lines_in_use, bank_effects, commit_effects, boundary_effects, is_empty}
+use Rattle.log_schemes.specs.Schemes.{bank_lines, kept_locks, register_slot}
 use Rattle.hart_runs.specs.RunSteps.{cleans_in}
 
 filter_short : (test : ℕ → Bool) (xs : List ℕ) → length (filter test xs) ≤ length xs
@@ -30,21 +31,16 @@ cleans_each : (address : ℕ → ℕ) (lines : List ℕ) → cleans_in (seen_eff
 cleans_each address [] = omega arith
 cleans_each address (line ∷ lines) = let more = cleans_each address lines in omega (arith, more)
 
--- a bank has six lines at most
-few_lines : (log : Log) → length (bank_lines log) ≤ 6
-few_lines V1 = omega arith
-few_lines V2 = omega arith
-
 bank_cleans : (b : Boundary) (bank : ℕ) (x : List ℕ) → cleans_in (seen_effects (bank_effects b bank x)) ≤ 6
 bank_cleans b bank x =
     let at : ℕ → ℕ = slot_at b.log b.thread bank in
     let slots : List ℕ = slots_kept b.log b.locks b.live in
     let locks = map (λ (kept : ℕ × ℕ). Stores (at kept.0) 8 kept.1) (kept_locks b.log b.locks) in
-    let registers = map (λ (r : ℕ). Stores (at r) 8 (read x r)) b.live in
+    let registers = map (λ (r : ℕ). Stores (at (register_slot b.log r)) 8 (read x r)) b.live in
     let lines = map (λ (line : ℕ). Cleans (at (8 * line))) (lines_in_use b.log slots) in
     let zeroth : cleans_in (seen_effects locks) ≡ 0 =
     stores_none (λ (kept : ℕ × ℕ). at kept.0) (λ (kept : ℕ × ℕ). kept.1) (kept_locks b.log b.locks) in
-    let first : cleans_in (seen_effects registers) ≡ 0 = stores_none at (λ (r : ℕ). read x r) b.live in
+    let first : cleans_in (seen_effects registers) ≡ 0 = stores_none (λ (r : ℕ). at (register_slot b.log r)) (λ (r : ℕ). read x r) b.live in
     let each : cleans_in (seen_effects lines) ≡ length (lines_in_use b.log slots) = cleans_each (λ (line : ℕ). at (8 * line)) (lines_in_use b.log slots) in
     let short : length (lines_in_use b.log slots) ≤ length (bank_lines b.log) =
     filter_short (λ (line : ℕ). list_any (λ (slot : ℕ). slot / 8 == line) slots) (bank_lines b.log) in

@@ -14,7 +14,8 @@ use Rattle.rv64_isa.specs.Rows.{Effect, Continues, Loads, Stores, Cleans, Fences
 use Rattle.machine_model.specs.Machine.{World}
 use Rattle.machine_model.specs.Schedule.{effect_at}
 use Rattle.memory_layout.specs.Roles as roles
-use Rattle.boundary_code.specs.Boundaries.{HaveRoom, boundary_effects, side_after}
+use Rattle.boundary_code.specs.Boundaries.{boundary_effects, side_after}
+use Rattle.log_schemes.specs.Schemes.{HaveRoom}
 use Rattle.node_code.specs.Pieces.{takes, gives, ends}
 use Rattle.flow_graph.specs.Nodes.{Lock, Unlock, End, Node, successors}
 use Rattle.flow_graph.specs.Actions as a

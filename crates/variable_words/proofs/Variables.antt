@@ -8,7 +8,7 @@ use Rattle.ido_ints.specs.declared.kinds.Kind.{Kind}
 use Rattle.ido_ints.specs.Kinds.{bytes_of}
 use Rattle.c_tree.specs.Programs.{Variable}
 use Rattle.c_tree.specs.WellFormed as f
-use Rattle.machine_model.specs.Machine.{numbers_from}
+use Rattle.log_schemes.specs.Schemes.{numbers_from}
 use Rattle.memory_layout.specs.Variables.{HaveRoom}
 use Rattle.variable_words.proofs.VariableBounds.{shapes}
 use Rattle.recovery_semantics.specs.ElementHistories.{History, live_number, durable_number}

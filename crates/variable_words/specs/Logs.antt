@@ -2,7 +2,8 @@
 use Rattle.std.specs.Prelude.{◌≡◌, ◌≢◌, ℕ, ◌*◌, ◌/◌, ◌<◌, List, true, map}
 use Rattle.log_schemes.specs.declared.log.Log.{Log}
 use Rattle.ido_base.specs.Layout.{aligned, byte_number, word_number, line_bytes}
-use Rattle.log_schemes.specs.Layout.{bank_slots, point_at, slot_at, in_range}
+use Rattle.log_schemes.specs.Layout.{point_at, slot_at, in_range}
+use Rattle.log_schemes.specs.Schemes.{bank_slots}
 use Rattle.ido_ints.specs.declared.kinds.Kind.{Kind}
 use Rattle.c_tree.specs.Programs.{Variable}
 use Rattle.c_tree.specs.WellFormed.{shape_of}

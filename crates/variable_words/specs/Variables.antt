@@ -7,7 +7,7 @@ use Rattle.ido_base.specs.Layout.{byte_number, variable_at}
 use Rattle.ido_ints.specs.declared.kinds.Kind.{Kind}
 use Rattle.c_tree.specs.Programs.{Variable}
 use Rattle.c_tree.specs.WellFormed.{shape_of, elements_in}
-use Rattle.machine_model.specs.Machine.{numbers_from}
+use Rattle.log_schemes.specs.Schemes.{numbers_from}
 use Rattle.memory_layout.specs.Variables.{HaveRoom}
 use Rattle.recovery_semantics.specs.ElementHistories.{live_number, durable_number}
 use Rattle.recovery_semantics.specs.Elements.{number_in}

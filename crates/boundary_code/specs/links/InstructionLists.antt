@@ -1,7 +1,7 @@
 -- Names for the pieces of the code of boundaries and constants. What they do is said in Boundaries and Straight.
 use Rattle.std.specs.Prelude.{ℕ, ◌+◌, ◌*◌, ◌/◌, ◌%◌, ◌^◌, List, [], ◌∷◌, ◌++◌, Bool, true, false}
 use Rattle.log_schemes.specs.declared.log.Log.{Log}
-use Rattle.log_schemes.specs.declared.log.Log.TheVariants.{V1, V2}
+use Rattle.log_schemes.specs.Schemes.{distance_bits, register_slot, size_of}
 use Rattle.log_schemes.specs.Layout.{bank_bytes}
 use Rattle.rv64_isa.specs.declared.instr.Instr.{Instr}
 use Rattle.rv64_isa.specs.declared.instr.Instr.TheVariants.{Auipc, Store, OpImmediate, ShiftImmediate, Op, CboClean, Fence}
@@ -18,9 +18,10 @@ pub record KeptCode : Type 0 where
   pub others : List Instr
   pub slots : List ℕ
 
-abbrev pub keep_slots : (live : List ℕ) → List Instr
-keep_slots [] = []
-keep_slots (r ∷ rs) = Store Sd r 30 (64 + 8 * r) ∷ keep_slots rs
+-- each live register gets its slot
+abbrev pub keep_slots : Log → (live : List ℕ) → List Instr
+keep_slots log [] = []
+keep_slots log (r ∷ rs) = Store Sd r 30 (64 + 8 * register_slot log r) ∷ keep_slots log rs
 
 abbrev pub clean_lines : (lines : List ℕ) → List Instr
 clean_lines [] = []
@@ -31,15 +32,10 @@ abbrev pub clean_where : Bool → (line : ℕ) → List Instr
 clean_where true line = clean_lines (line ∷ [])
 clean_where false line = []
 
--- by so many bits the offset of a bank is its number
-abbrev pub offset_bits : Log → ℕ
-offset_bits V1 = 8
-offset_bits V2 = 10
-
 -- the resume address's distance from the boundary's end, in two's complement of 32 bits
 abbrev pub point : Log → (resume : ℕ) → List Instr
 point log resume =
-    Auipc 30 ((resume + 28 + 2048) % 2 ^ 32 / 4096) ∷ OpImmediate Addi 30 30 ((resume + 28) % 4096) ∷ ShiftImmediate Srli 7 3 (offset_bits log) ∷
+    Auipc 30 ((resume + 28 + 2048) % 2 ^ 32 / 4096) ∷ OpImmediate Addi 30 30 ((resume + 28) % 4096) ∷ ShiftImmediate Srli 7 3 (distance_bits (size_of log)) ∷
     Op Add 30 30 7 ∷ []
 
 abbrev pub commit : (register : ℕ) → List Instr
@@ -48,7 +44,7 @@ commit register = Store Sd register 31 0 ∷ CboClean 31 ∷ Fence ∷ []
 -- a boundary's code up to its first fence
 abbrev pub bank_part : Log → (address : List Instr) → KeptCode → (live : List ℕ) → List Instr
 bank_part log address kept live =
-    OpImmediate Xori 3 3 (bank_bytes log) ∷ address ++ Op Add 30 31 3 ∷ kept.first ++ Store Sd 7 30 64 ∷ kept.others ++ keep_slots live
+    OpImmediate Xori 3 3 (bank_bytes log) ∷ address ++ Op Add 30 31 3 ∷ kept.first ++ Store Sd 7 30 64 ∷ kept.others ++ keep_slots log live
     ++ clean_lines (lines_in_use log kept.slots)
 
 -- the part before the locks, and the one after them
@@ -56,7 +52,7 @@ abbrev pub opening_list : Log → (address first : List Instr) → List Instr
 opening_list log address first = OpImmediate Xori 3 3 (bank_bytes log) ∷ address ++ Op Add 30 31 3 ∷ first ++ Store Sd 7 30 64 ∷ []
 
 abbrev pub closing_list : Log → (slots live : List ℕ) → (resume : ℕ) → List Instr
-closing_list log slots live resume = (keep_slots live ++ clean_lines (lines_in_use log slots)) ++ (Fence ∷ point log resume ++ commit 30)
+closing_list log slots live resume = (keep_slots log live ++ clean_lines (lines_in_use log slots)) ++ (Fence ∷ point log resume ++ commit 30)
 
 abbrev pub boundary_list : Log → (address : List Instr) → KeptCode → (live : List ℕ) → (resume : ℕ) → List Instr
 boundary_list log address kept live resume = bank_part log address kept live ++ Fence ∷ point log resume ++ commit 30

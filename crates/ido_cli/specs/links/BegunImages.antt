@@ -7,7 +7,7 @@ use Rattle.image_checks.specs.declared.error.ImageError.{ImageError}
 use Rattle.image_checks.specs.declared.error.ImageError.TheVariants as e
 use Rattle.crash_images.specs.declared.version.ImageVersion.{ImageVersion}
 use Rattle.ido_cli.specs.declared.compiled_image.Begun.{Begun}
-use Rattle.log_schemes.specs.declared.log.Log.TheVariants.{V2}
+use Rattle.flat_compile.specs.TranslatedForms.{command_log}
 use Rattle.ido_compile.specs.declared.compiler.Compiled.{Compiled}
 use Rattle.ido_compile.specs.declared.error.CompileError.{CompileError}
 use Rattle.ido_compile.specs.CompileAnswers.{IsCompileAnswerAs}
@@ -31,7 +31,7 @@ pub record HasBegun (newest : ImageVersion) (bytes : List ℕ) (b : Begun) : Typ
 
 -- the fault of an image whose source isn't compiled for the newest log
 abbrev pub IsAnewFault : (source : List ℕ) → ImageError → Type 0
-IsAnewFault source fault = (error : CompileError) × (fault ≡ image_fault error) × IsCompileAnswerAs V2 source (Err error)
+IsAnewFault source fault = (error : CompileError) × (fault ≡ image_fault error) × IsCompileAnswerAs command_log source (Err error)
 
 -- a fault of the image, whose bytes begin with no source that is compiled, unless memory was wanting
 pub record IsFirstFault (newest : ImageVersion) (bytes : List ℕ) (error : ImageError) : Type 0 where

@@ -1,7 +1,7 @@
 -- The report of a life with the fences of its harts, as the code makes it.
 use Rattle.std.specs.Prelude.{◌≡◌, ℕ, List, [], ◌++◌, length, map, Bool, ◌&&◌, ◌==◌, if◌then◌else◌}
 use Rattle.machine_events.specs.Cores.{finished_fences}
-use Rattle.machine_model.specs.Machine.{numbers_from}
+use Rattle.log_schemes.specs.Schemes.{numbers_from}
 use Rattle.run_scripts.specs.Reports.{ReportedState, fence_lines}
 use Rattle.run_tracker.specs.ObjectLives.{Course, living, opening_of}
 use Rattle.ido_cli.specs.Runs.{IsReport}

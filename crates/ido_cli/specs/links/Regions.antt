@@ -4,13 +4,14 @@ use Rattle.std.specs.Global.{Global}
 use Rattle.c_tree.specs.LockNames.{Held}
 use Rattle.flow_graph.specs.declared.graph.Part.{Part}
 use Rattle.region_cutter.specs.declared.straight.Stretch.{Stretch}
+use Rattle.flat_compile.specs.TranslatedForms.{command_log}
 use Rattle.ido_compile.specs.declared.error.CompileError.{CompileError}
-use Rattle.ido_compile.specs.links.FrontEndAnswers.{IsRefusal}
+use Rattle.ido_compile.specs.links.FrontEndAnswers.{IsRefusalAs}
 use Rattle.ido_cli.specs.Answers.{RegionsAnswer}
 
 abbrev pub IsRegionsAnswer : (least : Bool) → (source : List ℕ) → Result (Vec ℕ Global) CompileError → Type 0
 IsRegionsAnswer least source (Ok output) = RegionsAnswer least source 0 output.items
-IsRegionsAnswer least source (Err error) = IsRefusal source error
+IsRegionsAnswer least source (Err error) = IsRefusalAs command_log source error
 
 -- each stretch has a node
 abbrev pub HaveNodes : List Stretch → Type 0

@@ -2,8 +2,8 @@
 use Rattle.std.specs.Prelude.{ℕ, List}
 use Rattle.machine_events.specs.declared.event.Event.{Event}
 use Rattle.compiler_correctness.specs.Translations.{Translation}
-use Rattle.ido_cli.specs.declared.command.Command.{Command}
-use Rattle.ido_cli.specs.declared.command.Command.TheVariants as command
+use Rattle.command_words.specs.declared.command.Command.{Command}
+use Rattle.command_words.specs.declared.command.Command.TheVariants as command
 use Rattle.ido_cli.specs.declared.answer.Product.{Product}
 use Rattle.ido_cli.specs.declared.answer.Product.TheVariants as product
 use Rattle.ido_cli.specs.declared.play.Asked.{Asked}

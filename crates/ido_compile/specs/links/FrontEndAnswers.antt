@@ -16,7 +16,7 @@ use Rattle.c_inline.specs.declared.inline.InlineError.TheVariants as inline_erro
 use Rattle.flat_analysis.specs.declared.analyses.Analysis.{Analysis}
 use Rattle.flat_compile.specs.declared.compile.Translated.{Translated}
 use Rattle.flat_analysis.specs.Analyses.{IsAnalysis}
-use Rattle.flat_compile.specs.TranslatedForms.{IsTranslatedAs, IsResumableAs, command_log}
+use Rattle.flat_compile.specs.TranslatedForms.{IsTranslatedAs, IsResumableAs}
 use Rattle.thread_code.specs.Plans.{language_of}
 use Rattle.ido_compile.specs.LoggedTexts.{IsAcceptedAs, IsFlattenedAs, IsRefusedAs}
 use Rattle.ido_compile.specs.declared.error.CompileError.{CompileError}
@@ -43,14 +43,10 @@ IsTranslationAnswerAs log text flat (Ok t) =
     IsAcceptedAs log text flat × (IsTranslatedAs log flat t.object t.marks t.cuts × IsResumableAs log flat t.object t.marks t.cuts t.resumes.items)
 IsTranslationAnswerAs log text flat (Err x) = IsRefusalAs log text x
 
--- ---- By commands
-
-abbrev pub IsRefusal : (text : List ℕ) → CompileError → Type 0
-IsRefusal text x = IsRefusalAs command_log text x
-
-abbrev pub IsFrontAnswer : (text : List ℕ) → Result Flat CompileError → Type 0
-IsFrontAnswer text (Ok flat) = IsAcceptedAs command_log text (flat_of flat)
-IsFrontAnswer text (Err x) = IsRefusal text x
+-- by all checks
+abbrev pub IsFrontAnswerAs : Log → (text : List ℕ) → Result Flat CompileError → Type 0
+IsFrontAnswerAs log text (Ok flat) = IsAcceptedAs log text (flat_of flat)
+IsFrontAnswerAs log text (Err x) = IsRefusalAs log text x
 
 -- ---- The same error, of each check
 

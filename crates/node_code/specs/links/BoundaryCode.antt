@@ -1,7 +1,9 @@
 -- Code of boundaries, as it is made.
 use Rattle.std.specs.Prelude.{ℕ, ◌+◌, ◌≤◌, List, [], ◌∷◌, length, ◌==◌, Bool}
 use Rattle.log_schemes.specs.declared.log.Log.{Log}
-use Rattle.log_schemes.specs.declared.log.Log.TheVariants.{V1, V2}
+use Rattle.log_schemes.specs.declared.keeping.Keeping.{Keeping}
+use Rattle.log_schemes.specs.declared.keeping.Keeping.TheVariants.{Masked, Listed}
+use Rattle.log_schemes.specs.Schemes.{keeping_of}
 use Rattle.rv64_isa.specs.declared.instr.Instr.{Instr}
 use Rattle.rv64_isa.specs.declared.instr.Instr.TheVariants.{OpImmediate}
 use Rattle.rv64_isa.specs.declared.instr.ImmediateOperation.TheVariants.{Addi}
@@ -28,6 +30,9 @@ abbrev pub IsCodeFor : kept.Kept → (resume : ℕ) → (code : List Instr) → 
 IsCodeFor k resume code = (locks : List ℕ) → MayKeep k.log k.mask (codes_of k) locks → IsCodeOf (boundary_of k locks resume) (codes_of k) code
 
 -- no lock is kept, by the mask or by so many codes
+abbrev pub none_as : Keeping → (mask codes : ℕ) → Bool
+none_as Masked mask codes = mask == 0
+none_as Listed mask codes = codes == 0
+
 abbrev pub keeps_none : Log → (mask codes : ℕ) → Bool
-keeps_none V1 mask codes = mask == 0
-keeps_none V2 mask codes = codes == 0
+keeps_none log mask codes = none_as (keeping_of log) mask codes

@@ -4,7 +4,9 @@ use Rattle.std.specs.List.{AllZip}
 use Rattle.log_schemes.specs.Layout.{log_of}
 use Rattle.ido_base.specs.declared.limits.TheConstants.{MOST_PRICE, MOST_TEMPORARIES}
 use Rattle.log_schemes.specs.declared.log.Log.{Log}
-use Rattle.log_schemes.specs.declared.log.Log.TheVariants.{V1, V2}
+use Rattle.log_schemes.specs.declared.keeping.Keeping.{Keeping}
+use Rattle.log_schemes.specs.declared.keeping.Keeping.TheVariants.{Masked, Listed}
+use Rattle.log_schemes.specs.Schemes.{keeping_of}
 use Rattle.c_tree.specs.Exprs as e
 use Rattle.c_tree.specs.Prices.{need_of, node_price, nodes_of}
 use Rattle.rv64_isa.specs.declared.instr.Instr.{Instr}
@@ -52,10 +54,13 @@ abbrev pub IsNumberCode : Homes → (address : List Instr) → e.LockName → Li
 IsNumberCode h address x code = IsNumberBy h address x.mutex x.key code
 
 -- of each of the names, where the log lists locks
-abbrev pub AreNumberCodes : Log → Homes → (thread : ℕ) → List e.LockName → List (List Instr) → Type 0
-AreNumberCodes V1 h thread names codes = codes ≡ []
-AreNumberCodes V2 h thread names codes = (address : List Instr) × IsConstant 31 (log_of V2 thread) address × (length address ≤ 2) ×
+abbrev pub AreCodesAs : Keeping → Log → Homes → (thread : ℕ) → List e.LockName → List (List Instr) → Type 0
+AreCodesAs Masked log h thread names codes = codes ≡ []
+AreCodesAs Listed log h thread names codes = (address : List Instr) × IsConstant 31 (log_of log thread) address × (length address ≤ 2) ×
     AllZip (IsNumberCode h address) names codes
+
+abbrev pub AreNumberCodes : Log → Homes → (thread : ℕ) → List e.LockName → List (List Instr) → Type 0
+AreNumberCodes log h thread names codes = AreCodesAs (keeping_of log) log h thread names codes
 
 -- ---- For a call
 

@@ -3,22 +3,22 @@ use Rattle.std.specs.Int.{cast_signed, cast_unsigned, w32}
 use Rattle.std.proofs.lemmas.Int.{to_z-of_z}
 use Rattle.std.proofs.lemmas.Bool.{ne_eqb}
 use Rattle.std.proofs.lemmas.Result.{IfOk-weaker}
-use Rattle.log_schemes.specs.declared.log.Log.TheVariants.{V1}
+use Rattle.log_schemes.specs.declared.log.Log.{Log}
 use Rattle.log_schemes.specs.Layout.{log_of}
 use Rattle.ido_base.specs.Locks.{locks_in, mask_with}
 use Rattle.ido_base.proofs.Public.{mask_of_locks}
 use Rattle.rv64_isa.specs.declared.instr.Instr.{Instr}
 use Rattle.rv64_isa.specs.Signed.{twos_complement}
 use Rattle.operator_code.specs.StraightLineCode.{IsConstant}
-use Rattle.boundary_code.specs.Boundaries.{Boundary, is_empty}
+use Rattle.boundary_code.specs.Boundaries.{Boundary, fixed_words, is_empty}
 use Rattle.boundary_code.specs.links.InstructionLists.{boundary_list, last_list}
 use Rattle.boundary_code.proofs.BoundariesByPieces.{Parts, by_mask_made, last_made}
 use Rattle.boundary_code.proofs.EmptyLists.{empty_where}
 use Rattle.boundary_code.proofs.Lengths.{boundary_short, last_short}
 use Rattle.boundary_code.proofs.code.boundary.Goals as goal
 
-is_log : (value thread : ℕ) (log : List Instr) → value ≡ log_of V1 thread → IsConstant 31 value log → IsConstant 31 (log_of V1 thread) log
-is_log value thread log e c = subst (λ (n : ℕ). IsConstant 31 n log) e c
+is_log : (log : Log) (value thread : ℕ) (code : List Instr) → value ≡ log_of log thread → IsConstant 31 value code → IsConstant 31 (log_of log thread) code
+is_log log value thread code e c = subst (λ (n : ℕ). IsConstant 31 n code) e c
 
 no_mask : (mask : ℕ) → mask < 2 ^ 64 → mask ≡ 0 → is_empty (locks_in mask) ≡ true
 no_mask mask small e = empty_where mask small ∙ eq-eqb mask 0 e
@@ -32,98 +32,51 @@ is_mask mask code small c = subst (λ (n : ℕ). IsConstant 7 n code) (sym (mask
 short_as : (code list : List Instr) (n : ℕ) → code ≡ list → length list ≤ n → length code ≤ n
 short_as code list n e h = subst (λ (is : List Instr). length is ≤ n) (sym e) h
 
-pub returns-then-mask-eq0-clause-effects : goal.returns-then-mask-eq0-clause-effects
-returns-then-mask-eq0-clause-effects c =
-    let b : Boundary = record { log = V1; thread = c.args.thread; locks = locks_in c.args.mask; live = c.args.live.now; resume = c.args.resume } in
+pub returns-then-mask-eq0-clause-code : goal.returns-then-mask-eq0-clause-code
+returns-then-mask-eq0-clause-code c =
+    let b : Boundary = record { log = c.args.log; thread = c.args.thread; locks = locks_in c.args.mask; live = c.args.live.now; resume = c.args.resume } in
     IfOk-weaker c.emit_last_boundary.result _ _
-    (λ code k. (last_made b c.in_ok-log.log.items c.deref.result.now code.items c.requires.thread (no_mask c.args.mask (search rules) c.if-mask-eq0.true)
-    (is_log c.log_of.result c.args.thread c.in_ok-log.log.items c.log_of.ensures c.in_ok-log.ensures.code) c.deref.ensures.value k).effects)
+    (λ code k. last_made b c.in_ok-address.address.items c.deref.result.now code.items c.requires.thread
+    (no_mask c.args.mask (search rules) c.if-mask-eq0.true)
+    (is_log c.args.log c.log_of.result c.args.thread c.in_ok-address.address.items c.log_of.ensures c.in_ok-address.ensures.code) c.deref.ensures.value k)
     c.emit_last_boundary.ensures
 
-pub returns-then-mask-eq0-clause-offset : goal.returns-then-mask-eq0-clause-offset
-returns-then-mask-eq0-clause-offset c =
-    let b : Boundary = record { log = V1; thread = c.args.thread; locks = locks_in c.args.mask; live = c.args.live.now; resume = c.args.resume } in
-    IfOk-weaker c.emit_last_boundary.result _ _
-    (λ code k. (last_made b c.in_ok-log.log.items c.deref.result.now code.items c.requires.thread (no_mask c.args.mask (search rules) c.if-mask-eq0.true)
-    (is_log c.log_of.result c.args.thread c.in_ok-log.log.items c.log_of.ensures c.in_ok-log.ensures.code) c.deref.ensures.value k).offset)
-    c.emit_last_boundary.ensures
-
-pub returns-then-mask-eq0-clause-others : goal.returns-then-mask-eq0-clause-others
-returns-then-mask-eq0-clause-others c =
-    let b : Boundary = record { log = V1; thread = c.args.thread; locks = locks_in c.args.mask; live = c.args.live.now; resume = c.args.resume } in
-    IfOk-weaker c.emit_last_boundary.result _ _
-    (λ code k. (last_made b c.in_ok-log.log.items c.deref.result.now code.items c.requires.thread (no_mask c.args.mask (search rules) c.if-mask-eq0.true)
-    (is_log c.log_of.result c.args.thread c.in_ok-log.log.items c.log_of.ensures c.in_ok-log.ensures.code) c.deref.ensures.value k).others)
-    c.emit_last_boundary.ensures
-
-pub returns-clause-effects : goal.returns-clause-effects
-returns-clause-effects c =
-    let parts : Parts V1 c.args.thread c.args.live.now c.args.resume c.in_ok-log.log.items = record {
+pub returns-clause-code : goal.returns-clause-code
+returns-clause-code c =
+    let parts : Parts c.args.log c.args.thread c.args.live.now c.args.resume c.in_ok-address.address.items = record {
       thread_is = c.requires.thread;
       live_are = c.requires.live;
       low = c.requires.low;
       high = c.requires.high;
-      is_log = is_log c.log_of.result c.args.thread c.in_ok-log.log.items c.log_of.ensures c.in_ok-log.ensures.code;
+      is_log = is_log c.args.log c.log_of.result c.args.thread c.in_ok-address.address.items c.log_of.ensures c.in_ok-address.ensures.code;
     } in
     IfOk-weaker c.emit_boundary.result _ _
-    (λ code k. (by_mask_made c.args.thread (locks_in c.args.mask) c.args.live.now c.args.resume c.in_ok-log.log.items c.in_ok-record.record.items
-    c.deref-2.result.now c.deref-3.result.now c.deref-4.result.now
+    (λ code k. by_mask_made c.args.log c.requires.keeping c.args.thread (locks_in c.args.mask) c.args.live.now c.args.resume c.in_ok-address.address.items
+    c.in_ok-first.first.items c.deref-2.result.now c.deref-3.result.now c.deref-4.result.now
     (cast_signed w32 (cast_unsigned w32 c.args.resume)) code.items parts (some_mask c.args.mask (search rules) c.if-mask-eq0.false)
-    (is_mask c.args.mask c.in_ok-record.record.items (search rules) c.in_ok-record.ensures.code) c.deref-2.ensures.value c.deref-3.ensures.value
-    (c.deref-4.ensures.value ∙ c.in_ok-slots.ensures) (to_z-of_z w32 c.args.resume c.ranges.resume) k).effects)
-    c.emit_boundary.ensures
-
-pub returns-clause-offset : goal.returns-clause-offset
-returns-clause-offset c =
-    let parts : Parts V1 c.args.thread c.args.live.now c.args.resume c.in_ok-log.log.items = record {
-      thread_is = c.requires.thread;
-      live_are = c.requires.live;
-      low = c.requires.low;
-      high = c.requires.high;
-      is_log = is_log c.log_of.result c.args.thread c.in_ok-log.log.items c.log_of.ensures c.in_ok-log.ensures.code;
-    } in
-    IfOk-weaker c.emit_boundary.result _ _
-    (λ code k. (by_mask_made c.args.thread (locks_in c.args.mask) c.args.live.now c.args.resume c.in_ok-log.log.items c.in_ok-record.record.items
-    c.deref-2.result.now c.deref-3.result.now c.deref-4.result.now
-    (cast_signed w32 (cast_unsigned w32 c.args.resume)) code.items parts (some_mask c.args.mask (search rules) c.if-mask-eq0.false)
-    (is_mask c.args.mask c.in_ok-record.record.items (search rules) c.in_ok-record.ensures.code) c.deref-2.ensures.value c.deref-3.ensures.value
-    (c.deref-4.ensures.value ∙ c.in_ok-slots.ensures) (to_z-of_z w32 c.args.resume c.ranges.resume) k).offset)
-    c.emit_boundary.ensures
-
-pub returns-clause-others : goal.returns-clause-others
-returns-clause-others c =
-    let parts : Parts V1 c.args.thread c.args.live.now c.args.resume c.in_ok-log.log.items = record {
-      thread_is = c.requires.thread;
-      live_are = c.requires.live;
-      low = c.requires.low;
-      high = c.requires.high;
-      is_log = is_log c.log_of.result c.args.thread c.in_ok-log.log.items c.log_of.ensures c.in_ok-log.ensures.code;
-    } in
-    IfOk-weaker c.emit_boundary.result _ _
-    (λ code k. (by_mask_made c.args.thread (locks_in c.args.mask) c.args.live.now c.args.resume c.in_ok-log.log.items c.in_ok-record.record.items
-    c.deref-2.result.now c.deref-3.result.now c.deref-4.result.now
-    (cast_signed w32 (cast_unsigned w32 c.args.resume)) code.items parts (some_mask c.args.mask (search rules) c.if-mask-eq0.false)
-    (is_mask c.args.mask c.in_ok-record.record.items (search rules) c.in_ok-record.ensures.code) c.deref-2.ensures.value c.deref-3.ensures.value
-    (c.deref-4.ensures.value ∙ c.in_ok-slots.ensures) (to_z-of_z w32 c.args.resume c.ranges.resume) k).others)
+    (is_mask c.args.mask c.in_ok-first.first.items (search rules) c.in_ok-first.ensures.code) c.deref-2.ensures.value c.deref-3.ensures.value
+    (c.deref-4.ensures.value ∙ c.in_ok-slots.ensures) (to_z-of_z w32 c.args.resume c.ranges.resume) k)
     c.emit_boundary.ensures
 
 pub returns-then-mask-eq0-clause-short : goal.returns-then-mask-eq0-clause-short
 returns-then-mask-eq0-clause-short c =
     IfOk-weaker c.emit_last_boundary.result _ _
-    (λ code k. short_as code.items (last_list c.deref.result.now) (length c.args.live.now + 35) k
-    (last_short c.deref.result.now c.args.live.now (subst (λ (is : List Instr). length is ≤ 8) (sym c.deref.ensures.value) c.in_ok-log.ensures.short)))
+    (λ code k.
+    let few = last_short c.deref.result.now c.args.live.now
+    (subst (λ (is : List Instr). length is ≤ 8) (sym c.deref.ensures.value) c.in_ok-address.ensures.short) in
+    short_as code.items (last_list c.deref.result.now) (length c.args.live.now + fixed_words c.args.log) k (omega (arith, few)))
     c.emit_last_boundary.ensures
 
 pub returns-clause-short : goal.returns-clause-short
 returns-clause-short c =
     IfOk-weaker c.emit_boundary.result _ _
     (λ code k.
-    let most = boundary_short V1 c.deref-2.result.now (record { first = c.deref-3.result.now; others = []; slots = c.deref-4.result.now }) c.args.live.now
-    (twos_complement 32 (cast_signed w32 (cast_unsigned w32 c.args.resume)))
-    (subst (λ (is : List Instr). length is ≤ 8) (sym c.deref-2.ensures.value) c.in_ok-log.ensures.short)
-    (subst (λ (is : List Instr). length is ≤ 8) (sym c.deref-3.ensures.value) c.in_ok-record.ensures.short) in
+    let most = boundary_short c.args.log c.deref-2.result.now (record { first = c.deref-3.result.now; others = []; slots = c.deref-4.result.now })
+    c.args.live.now (twos_complement 32 (cast_signed w32 (cast_unsigned w32 c.args.resume)))
+    (subst (λ (is : List Instr). length is ≤ 8) (sym c.deref-2.ensures.value) c.in_ok-address.ensures.short)
+    (subst (λ (is : List Instr). length is ≤ 8) (sym c.deref-3.ensures.value) c.in_ok-first.ensures.short) in
     short_as code.items
-    (boundary_list V1 c.deref-2.result.now (record { first = c.deref-3.result.now; others = []; slots = c.deref-4.result.now }) c.args.live.now
+    (boundary_list c.args.log c.deref-2.result.now (record { first = c.deref-3.result.now; others = []; slots = c.deref-4.result.now }) c.args.live.now
     (twos_complement 32 (cast_signed w32 (cast_unsigned w32 c.args.resume))))
-    (length c.args.live.now + 35) k (omega (arith, most)))
+    (length c.args.live.now + fixed_words c.args.log) k (omega (arith, most)))
     c.emit_boundary.ensures

@@ -3,4 +3,4 @@ use Rattle.boundary_code.specs.links.InstructionLists.{keep_slots}
 use Rattle.boundary_code.proofs.code.emit_slots.Given as goal
 
 abbrev pub invariant-loop-register : goal.invariant-loop-register
-invariant-loop-register l = l.code.items ++ keep_slots (drop l.register-index l.live) ≡ l.initial.code.items ++ keep_slots l.live
+invariant-loop-register l = l.code.items ++ keep_slots l.log (drop l.register-index l.live) ≡ l.initial.code.items ++ keep_slots l.log l.live

@@ -17,11 +17,11 @@ adopt-requires g c =
       room = (let n = a.2 in let f = c.if-ahead-quota-2.false in let e = c.events.ensures in let r = c.requires.ceiling.1 in omega (arith, n, f, e, r));
     }
 
-pub returns : goal.returns
-returns g c =
+pub returns-clause-made : goal.returns-clause-made
+returns-clause-made g c =
     let a = subst (λ (z : Option (Ahead g.row.C-Local.Denot)).
     RunsIn g.C.Core.opening g.C.Core.hart_count g.C.Core.is_local g.C.Core.ahead_by c.args.core.now c.args.quota.seat z) c.in-Some.is c.requires.ahead in
-    let e = c.if-not-adopt.ensures in let count = c.in-Some.ahead.steps in (
+    let e = c.if-not-adopt.ensures.made in let count = c.in-Some.ahead.steps in (
       a.0,
       record {
         opens = e.0;

@@ -1,8 +1,9 @@
-use Rattle.std.proofs.Common.{arith, inl, rules, subst, sym, ◌∙◌, replicate, Option}
+use Rattle.std.proofs.Common.{arith, inl, rules, subst, sym, ◌∙◌, replicate, Option, ◌+◌}
 use Rattle.hart_board.specs.declared.core_turn.Made.{Made}
-use Rattle.hart_board.specs.CoreTurns.{IsPlayed, TurnGives, events_made}
+use Rattle.hart_board.specs.CoreTurns.{Adopts, IsPlayed, TurnGives, count_made, events_made}
 use Rattle.hart_board.proofs.MadeEvents.{makes_more, plays_more, done_after, room_more, reply_next}
 use Rattle.hart_board.proofs.ServedTurns.{still_valid}
+use Rattle.hart_board.proofs.StepsAhead.{adopts_more}
 use Rattle.hart_board.proofs.core_turn.make_events.Goals as goal
 
 pub loop-count-init : goal.loop-count-init
@@ -13,6 +14,9 @@ loop-count-init g c = let e = c.adopt_or_make.ensures in record {
   makes =
       subst (λ (z : Option Made). TurnGives g.C.Core.behaviour g.C.Core.opening g.C.Core.history g.C.Core.hart_count c.args.core.now c.args.quota c.args.event
       c.args.most z) c.in-Some.is e.turn;
+  adopts =
+      subst (λ (z : Option Made). Adopts g.C.Core.history g.C.Core.is_at_beginning c.args.core.now c.args.quota c.args.most c.args.ahead.now (count_made z))
+      c.in-Some.is e.adopts;
 }
 
 pub overflow_add-so_far : goal.overflow_add-so_far
@@ -48,13 +52,28 @@ loop-count-preserved g c = let e = c.event-last.ensures in let i = c.loop-count.
       ))
       (reply_next g.C.Core.behaviour g.C.Core.opening g.C.Core.history g.C.Core.hart_count g.C.Core.space g.C.Core.evictable c.args.core.now c.loop-count.core
       c.args.event (replicate c.loop-count.count c.args.event) c.event-last.result i.played e.reply);
+  adopts =
+      adopts_more g.C.Core.history g.C.Core.is_at_beginning c.args.core.now c.args.quota c.args.most c.args.ahead.now c.loop-count.count
+      (c.loop-count.count + 1) (omega arith) i.adopts;
 }
 
 pub returns-then-is_idle : goal.returns-then-is_idle
-returns-then-is_idle g c = record { played = c.loop-count.invariant.played; turn = c.loop-count.invariant.makes }
+returns-then-is_idle g c = record {
+  played = c.loop-count.invariant.played;
+  turn = c.loop-count.invariant.makes;
+  adopts = c.loop-count.invariant.adopts;
+}
 
 pub returns-then-is_done : goal.returns-then-is_done
-returns-then-is_done g c = record { played = c.loop-count.invariant.played; turn = c.loop-count.invariant.makes }
+returns-then-is_done g c = record {
+  played = c.loop-count.invariant.played;
+  turn = c.loop-count.invariant.makes;
+  adopts = c.loop-count.invariant.adopts;
+}
 
 pub returns-after-loop-count : goal.returns-after-loop-count
-returns-after-loop-count g c = record { played = c.loop-count.invariant.played; turn = c.loop-count.invariant.makes }
+returns-after-loop-count g c = record {
+  played = c.loop-count.invariant.played;
+  turn = c.loop-count.invariant.makes;
+  adopts = c.loop-count.invariant.adopts;
+}

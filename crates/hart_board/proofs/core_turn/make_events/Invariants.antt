@@ -1,5 +1,5 @@
 use Rattle.std.proofs.Common.{◌-◌, replicate}
-use Rattle.hart_board.specs.CoreTurns.{IsPlayed, Makes}
+use Rattle.hart_board.specs.CoreTurns.{Adopts, IsPlayed, Makes}
 use Rattle.hart_board.proofs.core_turn.make_events.Given as goal
 
 abbrev pub invariant-loop-count : goal.invariant-loop-count
@@ -9,6 +9,7 @@ invariant-loop-count g l = record {
     count = l.count;
     last = l.last;
   };
+  adopts : Adopts g.C.Core.history g.C.Core.is_at_beginning l.fn.core l.quota l.most l.ahead l.count;
 }
 
 abbrev pub decreases-loop-count : goal.decreases-loop-count

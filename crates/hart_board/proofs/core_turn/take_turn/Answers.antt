@@ -12,4 +12,4 @@ begin_again-requires g c = let p = c.make_events-made.ensures.played in (
 pub returns-clause-ahead : goal.returns-clause-ahead
 returns-clause-ahead g c = let p = c.make_events-made.ensures.played in
     subst (λ (z : g.C.Core.Meaning × ℕ). RunsAhead g.C.Core.is_local g.C.Core.ahead_by z.0 z.1 c.args.quota.seat c.begin_again.new.ahead)
-    (λ i. (p.opens i, p.harts i)) c.begin_again.ensures
+    (λ i. (p.opens i, p.harts i)) c.begin_again.ensures.ahead

@@ -1,7 +1,7 @@
 use Rattle.std.proofs.Common.{◌≡◌, ◌++◌, ◌-◌, map}
 use Rattle.c_tree.specs.Programs.{variable_of}
 use Rattle.c_tree.specs.WellFormed.{elements_in}
-use Rattle.machine_model.specs.Machine.{numbers_from}
+use Rattle.log_schemes.specs.Schemes.{numbers_from}
 use Rattle.run_tracker.specs.ObjectLives.{world_of}
 use Rattle.ido_cli.specs.Reports.{durable_elements}
 use Rattle.ido_cli.proofs.DurableNumbers.{element_number}

@@ -1,6 +1,6 @@
 use Rattle.std.proofs.Common.{◌≡◌, ◌++◌, ◌-◌, length, map}
 use Rattle.machine_events.specs.Cores.{finished_fences}
-use Rattle.machine_model.specs.Machine.{numbers_from}
+use Rattle.log_schemes.specs.Schemes.{numbers_from}
 use Rattle.run_tracker.specs.ObjectLives.{living, opening_of}
 use Rattle.ido_cli.specs.links.FencedReports.{fences_in}
 use Rattle.ido_cli.proofs.play.finished.Given as goal

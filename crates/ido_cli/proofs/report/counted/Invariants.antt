@@ -1,5 +1,5 @@
 use Rattle.std.proofs.Common.{◌≡◌, ◌++◌, ◌-◌, length, map}
-use Rattle.machine_model.specs.Machine.{numbers_from}
+use Rattle.log_schemes.specs.Schemes.{numbers_from}
 use Rattle.run_tracker.specs.ObjectLives.{ended_sections}
 use Rattle.ido_cli.proofs.report.counted.Given as goal
 

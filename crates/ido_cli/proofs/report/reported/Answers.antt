@@ -1,7 +1,7 @@
 use Rattle.std.proofs.Common.{ℕ, arith, ap, length, map, ◌∙◌}
 use Rattle.c_tree.specs.Flats.{flat_of}
 use Rattle.c_tree.specs.Source as m
-use Rattle.machine_model.specs.Machine.{numbers_from}
+use Rattle.log_schemes.specs.Schemes.{numbers_from}
 use Rattle.machine_model.specs.Schedule.{schedules}
 use Rattle.source_machine.specs.Lives.{ended_lives}
 use Rattle.run_tracker.specs.ObjectLives.{ended_sections, steps_in}

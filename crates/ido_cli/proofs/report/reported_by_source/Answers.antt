@@ -3,7 +3,7 @@ use Rattle.std.specs.Prelude.{sum_by}
 use Rattle.std.proofs.lemmas.List.{length-map}
 use Rattle.c_tree.specs.Flats.{flat_of, thread_of}
 use Rattle.c_tree.specs.Source as m
-use Rattle.machine_model.specs.Machine.{numbers_from}
+use Rattle.log_schemes.specs.Schemes.{numbers_from}
 use Rattle.machine_model.specs.Schedule.{schedules}
 use Rattle.source_machine.specs.Lives.{ended_lives}
 use Rattle.run_scripts.specs.links.ReportViews.{steps_of}

@@ -1,5 +1,5 @@
 use Rattle.std.proofs.Common.{◌≡◌, ◌++◌, ◌-◌, filter, length, not}
-use Rattle.machine_model.specs.Machine.{numbers_from}
+use Rattle.log_schemes.specs.Schemes.{numbers_from}
 use Rattle.machine_model.specs.Machine.{is_settled_hart}
 use Rattle.run_tracker.specs.ObjectLives.{world_of}
 use Rattle.ido_cli.specs.Reports.{unsettled_harts}

@@ -1,5 +1,5 @@
 use Rattle.std.proofs.Common.{◌≡◌, ◌++◌, ◌-◌, ◌^◌, ℕ, length, map, min}
-use Rattle.machine_model.specs.Machine.{numbers_from}
+use Rattle.log_schemes.specs.Schemes.{numbers_from}
 use Rattle.c_tree.specs.Source.{State}
 use Rattle.source_machine.specs.links.States.{RepresentsState, threads_in}
 use Rattle.ido_cli.specs.Runs.{counted}

@@ -21,6 +21,6 @@ say-requires-clause-counted c = counts_then c.args.points.now c.args.k c.in_ok-l
 pub returns : goal.returns
 returns c =
     subst (λ (report : List ℕ). IsOutcomeAt c.args.points.now c.args.k (record { settled = c.in_ok-said.said.status == 0; report = report }))
-    (sym c.new.ensures)
+    (sym c.in_ok-report.ensures)
     (outcome_of c.args.points.now c.args.k c.in_ok-life.life c.in_ok-life.ensures c.requires c.in_ok-said.said.status (c.in_ok-said.said.status == 0)
     c.in_ok-said.said.output.items c.in_ok-said.ensures refl)

@@ -1,7 +1,8 @@
 use Rattle.std.proofs.Common.{◌≡◌, ℕ, ◌+◌, ◌<◌, ◌∙◌, length, map, ap, arith, rules, length-set}
 use Rattle.machine_model.specs.declared.phase.Phase.{Phase}
 use Rattle.machine_model.specs.declared.phase.Phase.TheVariants.{Done}
-use Rattle.machine_model.specs.Machine.{phase_after_crash, durable_point, numbers_from}
+use Rattle.machine_model.specs.Machine.{phase_after_crash, durable_point}
+use Rattle.log_schemes.specs.Schemes.{numbers_from}
 use Rattle.ido_machine.proofs.Lists.{set_next, from_each}
 use Rattle.ido_machine.proofs.harts.set_phases.Goals as goal
 

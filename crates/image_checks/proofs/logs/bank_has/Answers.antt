@@ -1,21 +1,21 @@
-use Rattle.std.proofs.Common.{◌≡◌, ◌≤◌, ◌+◌, ◌*◌, ◌∙◌, ℕ, ap, length, subst, sym}
-use Rattle.log_schemes.specs.declared.log.Log.{Log}
-use Rattle.log_schemes.specs.Layout.{log_words}
+use Rattle.std.proofs.Common.{◌≡◌, ◌∙◌, ℕ, ap, subst, sym}
+use Rattle.log_schemes.specs.declared.keeping.Keeping.{Keeping}
+use Rattle.log_schemes.specs.Schemes.{read_as}
 use Rattle.ido_base.specs.Locks.{has_lock, locks_in}
-use Rattle.image_checks.specs.Logs.{logs_of, slot_in, slot_locks}
+use Rattle.image_checks.specs.Logs.{logs_of, slot_in}
 use Rattle.image_checks.proofs.logs.bank_has.Goals as goal
 
-pub is_listed-requires-clause-log : goal.is_listed-requires-clause-log
-is_listed-requires-clause-log c = subst (λ (log : Log). log_words log * (c.args.thread + 1) ≤ length c.args.logs.now) c.in-V2.is c.requires.log
+pub is_listed-requires-clause-keeping : goal.is_listed-requires-clause-keeping
+is_listed-requires-clause-keeping c = sym c.keeping.ensures ∙ c.in-Listed.is
 
-pub returns-in-V1 : goal.returns-in-V1
-returns-in-V1 c =
+pub returns-in-Masked : goal.returns-in-Masked
+returns-in-Masked c =
     let slot : ℕ → ℕ = λ slot. slot_in (logs_of c.args.log c.args.logs.now) c.args.thread c.args.bank slot in
-    subst (λ (log : Log). c.mask_has.result ≡ has_lock (slot_locks log slot) c.args.lock) (sym c.in-V1.is)
+    subst (λ (k : Keeping). c.mask_has.result ≡ has_lock (read_as k c.args.log slot) c.args.lock) (sym c.in-Masked.is ∙ c.keeping.ensures)
     (c.mask_has.ensures ∙ ap (λ (mask : ℕ). has_lock (locks_in mask) c.args.lock) c.slot_in.ensures)
 
-pub returns-in-V2 : goal.returns-in-V2
-returns-in-V2 c =
-    subst (λ (log : Log).
-    c.is_listed.result ≡ has_lock (slot_locks log (λ slot. slot_in (logs_of log c.args.logs.now) c.args.thread c.args.bank slot)) c.args.lock)
-    (sym c.in-V2.is) c.is_listed.ensures
+pub returns-in-Listed : goal.returns-in-Listed
+returns-in-Listed c =
+    subst (λ (k : Keeping).
+    c.is_listed.result ≡ has_lock (read_as k c.args.log (λ slot. slot_in (logs_of c.args.log c.args.logs.now) c.args.thread c.args.bank slot)) c.args.lock)
+    (sym c.in-Listed.is ∙ c.keeping.ensures) c.is_listed.ensures

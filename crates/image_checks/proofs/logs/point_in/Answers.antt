@@ -1,19 +1,17 @@
-use Rattle.std.proofs.Common.{◌≡◌, ◌≤◌, ◌+◌, ◌*◌, length, subst, sym}
-use Rattle.log_schemes.specs.declared.log.Log.{Log}
-use Rattle.log_schemes.specs.Layout.{log_words}
-use Rattle.image_checks.specs.Logs.{logs_of, point_in}
+use Rattle.image_checks.proofs.LoggedWords.{above_point, point_within}
 use Rattle.image_checks.proofs.logs.point_in.Goals as goal
+use Rattle.std.proofs.Common.{◌∙◌, ◌≡◌, ap, length, subst, sym, ℕ, ◌<◌, ◌≤◌, ◌-◌, ◌/◌}
+use Rattle.ido_base.specs.Layout.{logs_base}
+use Rattle.log_schemes.specs.Points.{point_of}
+use Rattle.image_checks.specs.Logs.{logged}
 
-pub masked_point-requires : goal.masked_point-requires
-masked_point-requires c = subst (λ (log : Log). log_words log * (c.args.thread + 1) ≤ length c.args.logs.now) c.in-V1.is c.requires
+pub logged-requires-clause-base : goal.logged-requires-clause-base
+logged-requires-clause-base c = subst (λ (address : ℕ). logs_base ≤ address) (sym c.point_at.ensures) (above_point c.args.log c.args.thread)
 
-pub listed_point-requires : goal.listed_point-requires
-listed_point-requires c = subst (λ (log : Log). log_words log * (c.args.thread + 1) ≤ length c.args.logs.now) c.in-V2.is c.requires
+pub logged-requires-clause-within : goal.logged-requires-clause-within
+logged-requires-clause-within c =
+    subst (λ (address : ℕ). (address - logs_base) / 8 < length c.args.logs.now) (sym c.point_at.ensures)
+    (point_within c.args.log c.args.thread (length c.args.logs.now) c.requires)
 
-pub returns-in-V1 : goal.returns-in-V1
-returns-in-V1 c =
-    subst (λ (log : Log). c.masked_point.result ≡ point_in (logs_of log c.args.logs.now) c.args.thread) (sym c.in-V1.is) c.masked_point.ensures
-
-pub returns-in-V2 : goal.returns-in-V2
-returns-in-V2 c =
-    subst (λ (log : Log). c.listed_point.result ≡ point_in (logs_of log c.args.logs.now) c.args.thread) (sym c.in-V2.is) c.listed_point.ensures
+pub returns : goal.returns
+returns c = c.read_point.ensures ∙ ap point_of (c.logged.ensures ∙ ap (logged c.args.logs.now) c.point_at.ensures)

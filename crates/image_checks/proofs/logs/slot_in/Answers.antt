@@ -1,21 +1,22 @@
-use Rattle.std.proofs.Common.{◌≡◌, ◌≤◌, ◌+◌, ◌*◌, length, subst, sym}
-use Rattle.log_schemes.specs.declared.log.Log.{Log}
-use Rattle.log_schemes.specs.Layout.{log_words}
-use Rattle.image_checks.specs.Logs.{logs_of, slot_in}
+use Rattle.image_checks.proofs.LoggedWords.{above_slot, slot_within}
+use Rattle.log_schemes.proofs.Public.{registers_exist}
 use Rattle.image_checks.proofs.logs.slot_in.Goals as goal
+use Rattle.std.proofs.Common.{◌∙◌, ◌≡◌, ap, arith, length, subst, sym, ℕ, ◌<◌, ◌≤◌, ◌-◌, ◌/◌}
+use Rattle.ido_base.specs.Layout.{logs_base}
+use Rattle.log_schemes.specs.Layout.{slot_at}
+use Rattle.image_checks.specs.Logs.{logged}
+use Rattle.log_schemes.specs.Schemes.{bank_slots}
 
-pub masked_slot-requires-clause-log : goal.masked_slot-requires-clause-log
-masked_slot-requires-clause-log c = subst (λ (log : Log). log_words log * (c.args.thread + 1) ≤ length c.args.logs.now) c.in-V1.is c.requires.log
+pub logged-requires-clause-base : goal.logged-requires-clause-base
+logged-requires-clause-base c =
+    subst (λ (address : ℕ). logs_base ≤ address) (sym c.slot_at.ensures) (above_slot c.args.log c.args.thread c.args.bank c.from.result)
 
-pub listed_slot-requires-clause-log : goal.listed_slot-requires-clause-log
-listed_slot-requires-clause-log c = subst (λ (log : Log). log_words log * (c.args.thread + 1) ≤ length c.args.logs.now) c.in-V2.is c.requires.log
+pub logged-requires-clause-within : goal.logged-requires-clause-within
+logged-requires-clause-within c =
+    subst (λ (address : ℕ). (address - logs_base) / 8 < length c.args.logs.now) (sym c.slot_at.ensures)
+    (slot_within c.args.log c.args.thread c.args.bank c.from.result (length c.args.logs.now) c.requires.bank
+    (subst (λ (n : ℕ). n < bank_slots c.args.log) (sym c.from.ensures) (registers_exist c.args.log c.args.slot c.requires.slot)) c.requires.log)
 
-pub returns-in-V1 : goal.returns-in-V1
-returns-in-V1 c =
-    subst (λ (log : Log). c.masked_slot.result ≡ slot_in (logs_of log c.args.logs.now) c.args.thread c.args.bank c.args.slot) (sym c.in-V1.is)
-    c.masked_slot.ensures
-
-pub returns-in-V2 : goal.returns-in-V2
-returns-in-V2 c =
-    subst (λ (log : Log). c.listed_slot.result ≡ slot_in (logs_of log c.args.logs.now) c.args.thread c.args.bank c.args.slot) (sym c.in-V2.is)
-    c.listed_slot.ensures
+pub returns : goal.returns
+returns c =
+    c.logged.ensures ∙ ap (logged c.args.logs.now) (c.slot_at.ensures ∙ ap (slot_at c.args.log c.args.thread c.args.bank) c.from.ensures)

@@ -1,7 +1,8 @@
-use Rattle.std.proofs.Common.{◌≡◌, ◌≤◌, ◌∙◌, ℕ, ℤ, List, inl, inr, refl, ap, arith, length, map}
+use Rattle.std.proofs.Common.{◌≡◌, ◌≤◌, ◌∙◌, ℕ, ℤ, List, inl, inr, refl, ap, arith, length, map, subst}
 use Rattle.std.proofs.lemmas.List.{length-map}
 use Rattle.std.proofs.lemmas.Result.{err_from_is_err_and}
-use Rattle.log_schemes.specs.declared.log.Log.TheVariants.{V2}
+use Rattle.log_schemes.specs.declared.keeping.Keeping.{Keeping}
+use Rattle.log_schemes.specs.Schemes as room
 use Rattle.c_tree.specs.Exprs.{LockName}
 use Rattle.c_tree.specs.Flats.{flat_of}
 use Rattle.c_tree.specs.Values.{lock_number}
@@ -19,7 +20,7 @@ returns-in_err-locks c =
 pub check_listed-requires-clause-locks : goal.check_listed-requires-clause-locks
 check_listed-requires-clause-locks c =
     let flat = flat_of c.args.flat.now in
-    let ls : List ℤ = bank_locals flat (logs_of V2 c.args.logs.now) c.args.thread c.args.bank c.args.resume.now.live.items in
+    let ls : List ℤ = bank_locals flat (logs_of c.args.log c.args.logs.now) c.args.thread c.args.bank c.args.resume.now.live.items in
     c.deref-2.ensures.value ∙ (c.in_ok-locks.ensures
     ∙ (ap (λ (ns : List ℤ). map (lock_number ns) (names_at (names_of c.args.names.now) c.deref.result.now)) c.requires.locals
     ∙ (ap (λ (ns : List LockName). map (lock_number ls) (names_at ns c.deref.result.now)) c.requires.names
@@ -35,7 +36,7 @@ check_listed-requires-clause-few c =
     few_locks (names_of c.args.names.now) c.args.locals.now c.args.resume.now.held.items c.deref-2.result.now
     (c.deref-2.ensures.value ∙ (c.in_ok-locks.ensures
     ∙ ap (λ (held : List ℕ). map (lock_number c.args.locals.now) (names_at (names_of c.args.names.now) held)) c.deref.ensures.value))
-    c.requires.room
+    (subst (λ (k : Keeping). room.HasRoom k c.args.resume.now.held.items) c.requires.keeping c.requires.room)
 
 pub returns-in_err-check_listed : goal.returns-in_err-check_listed
 returns-in_err-check_listed c =

@@ -1,25 +1,32 @@
-use Rattle.std.proofs.Common.{◌<◌, ◌^◌, ◌∙◌, ℕ, List, inl, ap, subst, sym}
+use Rattle.std.proofs.Common.{◌<◌, ◌^◌, ◌∙◌, ℕ, List, length, inl, ap, subst, sym}
 use Rattle.std.proofs.lemmas.Bool.{eq-eqb, eqb-true, true≢false}
 use Rattle.ido_base.specs.Locks.{mask_with}
-use Rattle.log_schemes.specs.declared.log.Log.TheVariants.{V1}
+use Rattle.log_schemes.specs.declared.keeping.Keeping.{Keeping}
+use Rattle.log_schemes.specs.Schemes as room
 use Rattle.c_tree.specs.Flats.{flat_of}
-use Rattle.image_checks.specs.Checks.{other_locks}
-use Rattle.image_checks.specs.Logs.{logs_of, slot_in}
+use Rattle.image_checks.specs.Checks.{AreLocksFirst, kinds_of_thread, names_of_thread, other_locks}
+use Rattle.image_checks.specs.Logs.{KeepsAs, logs_of, slot_in}
 use Rattle.image_checks.proofs.Banks.{masked_answer}
 use Rattle.image_checks.proofs.threads.check_masked.Goals as goal
 
 pub has_mask-requires-clause-fits : goal.has_mask-requires-clause-fits
-has_mask-requires-clause-fits c = subst (λ (numbers : List ℕ). mask_with numbers < 2 ^ 64) (sym c.deref.ensures.value) c.requires.room.fits
+has_mask-requires-clause-fits c =
+    let room = subst (λ (k : Keeping). room.HasRoom k c.args.resume.now.held.items) c.requires.keeping c.requires.room in
+    subst (λ (numbers : List ℕ). mask_with numbers < 2 ^ 64) (sym c.deref.ensures.value) room.fits
 
 pub returns-then-not-has_mask : goal.returns-then-not-has_mask
 returns-then-not-has_mask c =
-    let slot : ℕ = slot_in (logs_of V1 c.args.logs.now) c.args.thread c.args.bank 0 in
-    other_locks (inl tt) (λ h. true≢false
-    (sym (eq-eqb slot (mask_with c.deref.result.now) (h ∙ ap mask_with (sym c.deref.ensures.value))) ∙ sym c.if-not-has_mask.ensures))
+    let slots : ℕ → ℕ = λ slot. slot_in (logs_of c.args.log c.args.logs.now) c.args.thread c.args.bank slot in
+    other_locks (inl (subst AreLocksFirst (sym c.requires.keeping) tt)) (λ h.
+    let masked = subst (λ (k : Keeping). KeepsAs k c.args.log slots (names_of_thread (flat_of c.args.flat.now) c.args.thread)
+    (length (kinds_of_thread (flat_of c.args.flat.now) c.args.thread)) c.args.resume.now) c.requires.keeping h in
+    true≢false (sym (eq-eqb (slots 0) (mask_with c.deref.result.now) (masked ∙ ap mask_with (sym c.deref.ensures.value))) ∙ sym c.if-not-has_mask.ensures))
 
 pub returns : goal.returns
 returns c =
-    let slot : ℕ = slot_in (logs_of V1 c.args.logs.now) c.args.thread c.args.bank 0 in
-    masked_answer (flat_of c.args.flat.now) (logs_of V1 c.args.logs.now) c.args.thread c.args.bank c.args.resume.now c.check_beside.result
-    (eqb-true slot (mask_with c.deref.result.now) (sym c.if-not-has_mask.ensures) ∙ ap mask_with c.deref.ensures.value)
+    let slots : ℕ → ℕ = λ slot. slot_in (logs_of c.args.log c.args.logs.now) c.args.thread c.args.bank slot in
+    masked_answer (flat_of c.args.flat.now) (logs_of c.args.log c.args.logs.now) c.args.thread c.args.bank c.args.resume.now c.check_beside.result
+    (subst (λ (k : Keeping). KeepsAs k c.args.log slots (names_of_thread (flat_of c.args.flat.now) c.args.thread)
+    (length (kinds_of_thread (flat_of c.args.flat.now) c.args.thread)) c.args.resume.now) (sym c.requires.keeping)
+    (eqb-true (slots 0) (mask_with c.deref.result.now) (sym c.if-not-has_mask.ensures) ∙ ap mask_with c.deref.ensures.value))
     c.check_beside.ensures

@@ -1,4 +1,4 @@
-use Rattle.std.proofs.Common.{◌≡◌, ◌∙◌, ap, sym, arith, length}
+use Rattle.std.proofs.Common.{◌∙◌, ap, sym, arith, length}
 use Rattle.hart_board.specs.declared.seat.Seat.{Seat}
 use Rattle.hart_board.specs.BoardRule.{numbers_from}
 use Rattle.hart_board.specs.CoreTurns.{RunsIn}

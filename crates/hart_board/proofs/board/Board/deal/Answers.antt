@@ -1,10 +1,10 @@
-use Rattle.std.proofs.Common.{arith, ap, sym, ◌∙◌, suc, ◌+◌, ◌-◌, ◌≡◌, ℕ, [], Option, subst}
+use Rattle.std.proofs.Common.{arith, ap, sym, ◌∙◌, suc, ◌-◌, ◌≡◌, ℕ, [], Option, subst}
 use Rattle.hart_board.specs.declared.core_turn.Ahead.{Ahead}
 use Rattle.hart_board.specs.declared.seat.Seat.{Seat}
 use Rattle.hart_board.specs.declared.views.View.TheVariants.{Seated}
 use Rattle.hart_board.specs.BoardRule.{numbers_from, dealt}
 use Rattle.hart_board.specs.CoreTurns.{RunsIn}
-use Rattle.hart_board.proofs.Dealing.{taken_all, new_seat, row_more, row_length}
+use Rattle.hart_board.proofs.Dealing.{new_seat, row_more, row_length}
 use Rattle.hart_board.proofs.board.Board.deal.Goals as goal
 
 pub deal_first-first-requires-clause-me : goal.deal_first-first-requires-clause-me
@@ -27,7 +27,8 @@ loop-number-preserved g c = let i = c.loop-number.number in let inv = c.loop-num
     (ap (λ (z : Seat _ _). z.ticket) is) (let small = c.ranges.count.fits in omega (arith, small)) (let all = key.2 in omega (arith, all)) key.3
     (subst (λ (z : ℕ × Option (Ahead g.row.C-Local.Denot)).
     RunsIn g.C.Core.opening g.C.Core.hart_count g.C.Core.is_local g.C.Core.ahead_by c.args.self.now.table.shared.key.opening.value z.0 z.1)
-    (λ j. (sym (ap (λ (z : Seat _ _). z.number) is) j, sym (ap (λ (z : Seat _ _). z.local) is ∙ c.take_at-own.ensures.taken) j)) (inv.ahead i)) in
+    (λ j. (sym (ap (λ (z : Seat _ _). z.number) is) j, sym (ap (λ (z : Seat _ _). z.local) is ∙ c.take_at-own.ensures.taken) j))
+    (inv.ahead i (omega arith) (omega arith))) in
     let row = row_more g.C.Core.history g.C.Core.space (RunsIn g.C.Core.opening g.C.Core.hart_count g.C.Core.is_local g.C.Core.ahead_by) c.args.self.now
     c.loop-number.row.items c.push_reserved.new.self.items s i c.push_reserved.ensures.items inv.numbers inv.seats (ap (λ (z : Seat _ _). z.number) is) new in
     record {
@@ -36,9 +37,10 @@ loop-number-preserved g c = let i = c.loop-number.number in let inv = c.loop-num
       numbers = row.0;
       seats = row.1;
       room = c.push_reserved.ensures.capacity ∙ inv.room;
-      ahead =
-          taken_all (λ n a. RunsIn g.C.Core.opening g.C.Core.hart_count g.C.Core.is_local g.C.Core.ahead_by c.args.self.now.table.shared.key.opening.value n a)
-          (λ n. tt) c.loop-number.ahead.items c.take_at-own.new.all.items inv.ahead c.take_at-own.ensures.others;
+      ahead = λ n from below.
+          subst (λ (z : Option (Ahead g.row.C-Local.Denot)).
+          RunsIn g.C.Core.opening g.C.Core.hart_count g.C.Core.is_local g.C.Core.ahead_by c.args.self.now.table.shared.key.opening.value n z)
+          (sym (c.take_at-own.ensures.others n (λ e. omega (arith, e, from)))) (inv.ahead n (omega (arith, from)) below);
     }
 
 pub returns-clause-place : goal.returns-clause-place

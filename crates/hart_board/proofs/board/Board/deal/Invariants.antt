@@ -1,4 +1,4 @@
-use Rattle.std.proofs.Common.{◌≡◌, ◌+◌, [], ℕ, get_or, None}
+use Rattle.std.proofs.Common.{◌≡◌, ◌<◌, ◌≤◌, ◌+◌, [], ℕ, get_or, None}
 use Rattle.std.specs.Prelude.{All}
 use Rattle.std.specs.Vec.{vec_capacity}
 use Rattle.hart_board.specs.CoreTurns.{RunsIn}
@@ -14,7 +14,8 @@ invariant-loop-number g l = record {
   numbers : numbers_of l.row.items ≡ numbers_from 0 l.number;
   seats : All (λ s. IsSeatOf g.C.Core.history g.C.Core.space (RunsIn g.C.Core.opening g.C.Core.hart_count g.C.Core.is_local g.C.Core.ahead_by) l.self s
       × (seen s ≡ [])) l.row.items;
-  ahead : (n : ℕ) → RunsIn g.C.Core.opening g.C.Core.hart_count g.C.Core.is_local g.C.Core.ahead_by l.self.table.shared.key.opening.value n
+  ahead : (n : ℕ) → l.number ≤ n → n < l.count + 1 →
+      RunsIn g.C.Core.opening g.C.Core.hart_count g.C.Core.is_local g.C.Core.ahead_by l.self.table.shared.key.opening.value n
       (get_or l.ahead.items n None);
   room : vec_capacity l.row ≡ vec_capacity l.fn.row;
 }

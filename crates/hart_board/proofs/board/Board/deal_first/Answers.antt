@@ -1,7 +1,7 @@
-use Rattle.std.proofs.Common.{arith, ap, sym, subst, suc, ◌+◌, ◌∷◌, []}
+use Rattle.std.proofs.Common.{arith, ap, sym, subst}
 use Rattle.atomic_table.specs.Table.{Splits}
 use Rattle.hart_board.specs.declared.views.View.{View}
-use Rattle.hart_board.specs.BoardRule.{play_of, IsPlayOf, BoardInv, dealt, numbers_from, without_first, first_alone}
+use Rattle.hart_board.specs.BoardRule.{play_of, IsPlayOf, BoardInv, without_first, first_alone}
 use Rattle.hart_board.proofs.JoinsKeepInv.{splits}
 use Rattle.hart_board.proofs.board.Board.deal_first.Goals as goal
 

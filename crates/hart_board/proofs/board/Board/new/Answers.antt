@@ -24,7 +24,7 @@ returns-clause-numbers g c = let d = c.deal.ensures in let n = c.args.seats - 1 
     (ap (λ (z : Seat _ _). z.ticket) is) (let small = c.ranges.seats.fits in omega (arith, small, some)) (let all = b.1 in omega (arith, all, some)) reach
     (subst (λ (z : ℕ × Option (Ahead g.row.C-Local.Denot)).
     RunsIn g.C.Core.opening g.C.Core.hart_count g.C.Core.is_local g.C.Core.ahead_by board.table.shared.key.opening.value z.0 z.1)
-    (λ j. (sym (ap (λ (z : Seat _ _). z.number) is) j, sym (ap (λ (z : Seat _ _). z.local) is ∙ c.take_at-last.ensures.taken) j)) (d.ahead n)) in
+    (λ j. (sym (ap (λ (z : Seat _ _). z.number) is) j, sym (ap (λ (z : Seat _ _). z.local) is ∙ c.take_at-last.ensures.taken) j)) d.ahead) in
     let row = row_more g.C.Core.history g.C.Core.space (RunsIn g.C.Core.opening g.C.Core.hart_count g.C.Core.is_local g.C.Core.ahead_by) board
     c.deal.new.row.items c.push_reserved.new.self.items s n c.push_reserved.ensures.items d.numbers d.seats (ap (λ (z : Seat _ _). z.number) is) new in
     let whole : n + 1 ≡ c.args.seats = omega (arith, some) in
@@ -43,12 +43,12 @@ returns-clause-seats g c = let d = c.deal.ensures in let n = c.args.seats - 1 in
     (ap (λ (z : Seat _ _). z.ticket) is) (let small = c.ranges.seats.fits in omega (arith, small, some)) (let all = b.1 in omega (arith, all, some)) reach
     (subst (λ (z : ℕ × Option (Ahead g.row.C-Local.Denot)).
     RunsIn g.C.Core.opening g.C.Core.hart_count g.C.Core.is_local g.C.Core.ahead_by board.table.shared.key.opening.value z.0 z.1)
-    (λ j. (sym (ap (λ (z : Seat _ _). z.number) is) j, sym (ap (λ (z : Seat _ _). z.local) is ∙ c.take_at-last.ensures.taken) j)) (d.ahead n)) in
+    (λ j. (sym (ap (λ (z : Seat _ _). z.number) is) j, sym (ap (λ (z : Seat _ _). z.local) is ∙ c.take_at-last.ensures.taken) j)) d.ahead) in
     (row_more g.C.Core.history g.C.Core.space (RunsIn g.C.Core.opening g.C.Core.hart_count g.C.Core.is_local g.C.Core.ahead_by) board c.deal.new.row.items
     c.push_reserved.new.self.items s n c.push_reserved.ensures.items d.numbers d.seats (ap (λ (z : Seat _ _). z.number) is) new).1
 
 pub deal-requires-clause-ahead : goal.deal-requires-clause-ahead
 deal-requires-clause-ahead g c κs within =
-    λ n. subst (λ (z : g.row.C.Denot).
+    λ n below. subst (λ (z : g.row.C.Denot).
     RunsIn g.C.Core.opening g.C.Core.hart_count g.C.Core.is_local g.C.Core.ahead_by z n (get_or c.in_ok-ahead.ahead.items n None))
-    (sym c.in_ok-board.ensures.board.0) (c.in_ok-ahead.ensures n)
+    (sym c.in_ok-board.ensures.board.0) (c.in_ok-ahead.ensures n (let some = c.requires.some in omega (arith, below, some)))

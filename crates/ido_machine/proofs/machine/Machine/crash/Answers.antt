@@ -1,6 +1,7 @@
 use Rattle.std.proofs.Common.{◌≡◌, ℕ, List, length, map, rules, refl, sym, ap, subst, ◌∙◌}
 use Rattle.std.proofs.lemmas.List.{with_items_is}
-use Rattle.machine_model.specs.Machine.{phase_after_crash, durable_point, numbers_from}
+use Rattle.machine_model.specs.Machine.{phase_after_crash, durable_point}
+use Rattle.log_schemes.specs.Schemes.{numbers_from}
 use Rattle.hart_core.specs.declared.hart.Hart.{Hart}
 use Rattle.ido_machine.specs.Harts.{AreFresh}
 use Rattle.ido_machine.specs.Machines.{state_of}

@@ -6,7 +6,8 @@ use Rattle.ido_base.specs.Layout.{spread_words}
 use Rattle.line_memory.specs.links.MemoryRepresentation.{Represents, log_in}
 use Rattle.rv64_isa.specs.declared.object.Slot.{Slot}
 use Rattle.machine_model.specs.declared.phase.Phase.{Phase}
-use Rattle.machine_model.specs.Machine.{after_crash_of, phase_after_crash, durable_point, numbers_from}
+use Rattle.machine_model.specs.Machine.{after_crash_of, phase_after_crash, durable_point}
+use Rattle.log_schemes.specs.Schemes.{numbers_from}
 use Rattle.ido_machine.specs.Machines.{MachineState, RepresentsMachineState}
 use Rattle.ido_machine.proofs.Starts.{crash_simulates}
 use Rattle.ido_machine.proofs.machine.Machine.of_words.Goals as goal

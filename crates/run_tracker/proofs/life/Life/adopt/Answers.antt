@@ -12,6 +12,7 @@ use Rattle.ido_machine.proofs.Public.{get_some}
 use Rattle.run_tracker.specs.ObjectLives.{Course, living, opening_of, steps_in, world_of}
 use Rattle.run_tracker.specs.LocalRuns.{IsAtBeginning}
 use Rattle.run_tracker.specs.links.LifeRepresentation.{course_of}
+use Rattle.run_tracker.proofs.Beginnings.{stands_there}
 use Rattle.run_tracker.proofs.LifeChanges.{hart_count}
 use Rattle.run_tracker.proofs.LifeAfterSteps.{lasts_steps}
 use Rattle.run_tracker.proofs.LocalInvariants.{adopted_marks, adopted_state}
@@ -43,7 +44,7 @@ invariant_of-self c =
     let it : Hart = some.0 in
     let found : slice_get (world_of c.args.self.now).harts h ≡ Some it =
     subst (λ (x : Course). slice_get (world_of x).harts h ≡ Some it) c.self.view_is some.1 in
-    let begins : IsAtBeginning local it = (c.is_at.ensures it found).0 c.if-not-is_at.false in
+    let begins : IsAtBeginning local it = (stands_there c.args.self.now h it local found).1 (c.is_at.ensures.0 c.if-not-is_at.false) in
     let code : local.code ≡ placed_code program h =
     subst (λ (x : Course). local.code ≡ placed_code x.runs.program h) (sym c.self.view_is) c.requires.own.code in
     let running : 0 < local.made → it.phase ≡ Run = λ some. sym begins.0 ∙ c.state.ensures.running some in
@@ -110,7 +111,7 @@ returns-clause-moves c =
     let it : Hart = some.0 in
     let found : slice_get (world_of c.args.self.now).harts h ≡ Some it =
     subst (λ (x : Course). slice_get (world_of x).harts h ≡ Some it) c.self.view_is some.1 in
-    let begins : IsAtBeginning local it = (c.is_at.ensures it found).0 c.if-not-is_at.false in
+    let begins : IsAtBeginning local it = (stands_there c.args.self.now h it local found).1 (c.is_at.ensures.0 c.if-not-is_at.false) in
     let code : local.code ≡ placed_code program h =
     subst (λ (x : Course). local.code ≡ placed_code x.runs.program h) (sym c.self.view_is) c.requires.own.code in
     let running : 0 < local.made → it.phase ≡ Run = λ some. sym begins.0 ∙ c.state.ensures.running some in

@@ -1,4 +1,5 @@
-use Rattle.std.proofs.Common.{◌≡◌, ℕ, zero, suc, ◌+◌, ◌<◌, ◌≤◌, List, length, replicate, get_or, slice_index_or, ◌^◌, map, ap, ap₂, sym, subst, ◌∙◌, refl, arith, rules}
+use Rattle.std.proofs.Common.{◌≡◌, ℕ, zero, suc, ◌+◌, ◌<◌, ◌≤◌, List, length, replicate, get_or, slice_index_or, ◌^◌}
+use Rattle.std.proofs.Common.{map, ap, ap₂, sym, subst, ◌∙◌, refl, arith, rules}
 use Rattle.std.proofs.Common.{length-append}
 use Rattle.std.proofs.lemmas.List.{length-map, length-replicate}
 use Rattle.rv64_isa.specs.declared.object.Slot.{Slot}

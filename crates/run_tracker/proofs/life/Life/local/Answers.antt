@@ -6,11 +6,13 @@ use Rattle.rv64_isa.specs.Programs.{code_of, code_start}
 use Rattle.hart_core.specs.declared.local.LocalState.{LocalState}
 use Rattle.hart_core.specs.LocalSteps.{PlacedCode, placed_code}
 use Rattle.ido_machine.specs.Machines.{program_in}
-use Rattle.ido_machine.proofs.Public.{get_is, get_map}
+use Rattle.ido_machine.proofs.Public.{get_is, get_map, get_some}
 use Rattle.run_tracker.specs.ObjectLives.{Course, opening_of, world_of}
 use Rattle.run_tracker.specs.LocalRuns.{LocalCourse, IsLocalOf, local_at}
 use Rattle.run_tracker.specs.links.LifeRepresentation.{course_of}
 use Rattle.run_tracker.specs.links.SignTables.{placed_in, IsTableOf}
+use Rattle.run_tracker.proofs.Beginnings.{begins_there}
+use Rattle.run_tracker.proofs.LifeChanges.{hart_count}
 use Rattle.run_tracker.proofs.LocalInvariants.{copied}
 use Rattle.run_tracker.proofs.SignObservations.{own_table, placed_is}
 use Rattle.run_tracker.proofs.life.Life.local.Goals as goal
@@ -95,3 +97,14 @@ returns-clause-own c =
       }),
       ap (λ (x : LocalCourse). x.made) c.new.ensures,
     )
+
+pub returns-clause-begins : goal.returns-clause-begins
+returns-clause-begins c =
+    let life = c.self.inside in
+    let h = c.args.hart in
+    let now : Course = course_of life in
+    let exists : h < length (program_in life.machine) = subst (λ (x : Course). h < length x.runs.program) (sym c.self.view_is) c.requires in
+    let some = get_some (world_of now).harts h (omega (arith, exists, hart_count life c.self.invariant)) in
+    let found : slice_get (world_of c.args.self.now).harts h ≡ Some some.0 =
+    subst (λ (x : Course). slice_get (world_of x).harts h ≡ Some some.0) c.self.view_is some.1 in
+    begins_there c.args.self.now h some.0 c.new.result found (returns-clause-hart c some.0 found)

@@ -3,7 +3,8 @@ use Rattle.std.specs.Prelude.{Vec}
 use Rattle.std.specs.Global.{Global}
 use Rattle.std.proofs.lemmas.List.{get_or-map}
 use Rattle.ido_base.specs.Locks.{locks_in}
-use Rattle.log_schemes.specs.declared.log.Log.TheVariants.{V1}
+use Rattle.log_schemes.specs.declared.keeping.Keeping.TheVariants.{Masked}
+use Rattle.log_schemes.specs.Schemes.{keeping_of}
 use Rattle.rv64_isa.specs.declared.instr.Instr.{Instr}
 use Rattle.boundary_code.specs.Boundaries.{lists_of}
 use Rattle.node_code.proofs.Public.{lists_long}
@@ -27,7 +28,7 @@ returns c =
     let codes : List (List Instr) = lists_of c.args.numbers.now in
     let are : AreNumberCodes p.log (homes p t) x.number (held_names_before p t node) codes =
     subst (λ (h : Homes). AreNumberCodes p.log h x.number (held_names_before p t node) codes) o.homes c.requires.numbers in
-    let in_it : p.log ≡ V1 → (locals : List ℤ) → locks_in c.mask.result ≡ locks_before p t locals node = λ masks locals.
+    let in_it : keeping_of p.log ≡ Masked → (locals : List ℤ) → locks_in c.mask.result ≡ locks_before p t locals node = λ masks locals.
     ap locks_in (c.mask.ensures.masks masks) ∙ mask_has_held (set_before p t node) (few_held p o.plan t o.thread masks node own.own)
     ∙ numbers_plain p o.plan t o.thread masks locals node own.own in
     record {
@@ -35,12 +36,12 @@ returns c =
       thread_is = refl;
       live_is = c.deref.ensures.value ∙ sym (get_or-map (λ (v : Vec ℕ Global). v.items) x.live.now (node - x.part.first) _ []
           (omega (arith, o.lists.count, own.own.from_first, own.own.below_end)));
-      locks_are = may_keep p t o.plan o.thread o.formed node own.own codes p.log c.mask.result in_it are;
-      leave = leave_them p t o.plan o.thread o.formed node own.own codes p.log refl are;
-      few = few_words p t o.plan o.thread o.formed node own.own codes p.log are;
+      locks_are = may_keep p t o.plan o.thread o.formed node own.own codes c.mask.result in_it are;
+      leave = leave_them p t o.plan o.thread o.formed node own.own codes are;
+      few = few_words p t o.plan o.thread o.formed node own.own codes are;
       room =
-          let few = few_codes p t o.plan o.thread o.formed node own.own codes p.log are (o.plan.room t [] node) in
+          let few = few_codes p t o.plan o.thread o.formed node own.own codes are (o.plan.room t [] node) in
           let long = lists_long c.args.numbers.now in
           omega (arith, few, long);
-      quiet = quiet_codes p t o.plan o.thread o.formed node own.own codes p.log are;
+      quiet = quiet_codes p t o.plan o.thread o.formed node own.own codes are;
     }

@@ -1,8 +1,7 @@
 use Rattle.std.proofs.Common.{◌≡◌, ◌<◌, ◌≤◌, ◌^◌, ℕ, List, ap₂, arith, length, subst, sym}
 use Rattle.std.specs.List.{AllByRecursion, AllZip}
 use Rattle.log_schemes.specs.Layout.{log_of}
-use Rattle.log_schemes.specs.declared.log.Log.{Log}
-use Rattle.log_schemes.specs.declared.log.Log.TheVariants.{V2}
+use Rattle.log_schemes.specs.declared.keeping.Keeping.{Keeping}
 use Rattle.c_tree.specs.Exprs as e
 use Rattle.c_tree.specs.links.KnownNames.{names_of}
 use Rattle.rv64_isa.specs.declared.instr.Instr.{Instr}
@@ -10,8 +9,9 @@ use Rattle.c_tree.specs.LockNames.{Held, held_names}
 use Rattle.operator_code.specs.StraightLineCode.{IsConstant}
 use Rattle.expr_code.specs.EvaluationCode.{homes_of}
 use Rattle.boundary_code.specs.Boundaries.{lists_of}
+use Rattle.boundary_code.proofs.Public.{log_low}
 use Rattle.thread_code.specs.Plans.{held_names_before}
-use Rattle.rv64_codegen.specs.links.Numbers.{AreNumberCodes, IsNumberCode, IsReady}
+use Rattle.rv64_codegen.specs.links.Numbers.{AreCodesAs, IsNumberCode, IsReady}
 use Rattle.rv64_codegen.specs.links.Threads.{plan_in, thread_of}
 use Rattle.rv64_codegen.proofs.PlannedNodes.{held_there, held_sets, thread_below}
 use Rattle.rv64_codegen.proofs.NodePieces.{label_at}
@@ -45,11 +45,11 @@ returns c =
     let p = plan_in x in
     let t = thread_of x in
     let log : List Instr = c.deref.result.now in
-    let constant : IsConstant 31 (log_of V2 x.number) c.in_ok-log.log.items =
+    let constant : IsConstant 31 (log_of p.log x.number) c.in_ok-log.log.items =
     subst (λ (n : ℕ). IsConstant 31 n c.in_ok-log.log.items) c.log_of.ensures c.in_ok-log.ensures.code in
-    let is_log : IsConstant 31 (log_of V2 x.number) log =
-    subst (λ (is : List Instr). IsConstant 31 (log_of V2 x.number) is) (sym c.deref.ensures.value) constant in
-    let low : log_of V2 x.number < 2 ^ 31 = (let number = thread_below p o.plan t o.thread in omega (arith, number)) in
+    let is_log : IsConstant 31 (log_of p.log x.number) log =
+    subst (λ (is : List Instr). IsConstant 31 (log_of p.log x.number) is) (sym c.deref.ensures.value) constant in
+    let low : log_of p.log x.number < 2 ^ 31 = log_low p.log x.number (thread_below p o.plan t o.thread) in
     let short : length log ≤ 2 =
     subst (λ (is : List Instr). length is ≤ 2) (sym c.deref.ensures.value)
     (c.in_ok-log.ensures.two (subst (λ (n : ℕ). n < 2 ^ 31) (sym c.log_of.ensures) low)) in
@@ -58,5 +58,5 @@ returns c =
     ap₂ (λ (ns : List e.LockName) (set : Held). held_names ns set) o.names c.before-held.ensures.is in
     let are : AllZip (IsNumberCode (homes_of x.frame) log) (held_names_before p t c.args.node) codes =
     subst (λ (ns : List e.LockName). AllZip (IsNumberCode (homes_of x.frame) log) ns codes) names c.in_ok-codes.ensures in
-    subst (λ (l : Log). AreNumberCodes l (homes_of x.frame) x.number (held_names_before p t c.args.node) codes) (sym c.requires.log)
+    subst (λ (k : Keeping). AreCodesAs k p.log (homes_of x.frame) x.number (held_names_before p t c.args.node) codes) (sym c.requires.keeping)
     (log, is_log, short, are)

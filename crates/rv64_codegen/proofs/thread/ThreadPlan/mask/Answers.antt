@@ -1,4 +1,4 @@
-use Rattle.std.proofs.Common.{◌∙◌, ap, arith, length}
+use Rattle.std.proofs.Common.{◌∙◌, ap, arith, length, sym}
 use Rattle.lock_discipline.specs.Masks.{mask_of}
 use Rattle.rv64_codegen.specs.links.Threads.{plan_in, thread_of}
 use Rattle.rv64_codegen.proofs.PlannedNodes.{held_there, held_sets, few_held}
@@ -24,7 +24,7 @@ pub mask_of-requires : goal.mask_of-requires
 mask_of-requires c =
     let x = c.args.self.now in
     let o = c.requires.open_is in
-    omega (arith, ap length c.before-in-V1.ensures.is, few_held (plan_in x) o.plan (thread_of x) o.thread c.in-V1.is c.args.node c.requires.own)
+    omega (arith, ap length c.before-in-Masked.ensures.is, few_held (plan_in x) o.plan (thread_of x) o.thread (sym c.keeping.ensures ∙ c.in-Masked.is) c.args.node c.requires.own)
 
-pub returns-in-V1-clause-masks : goal.returns-in-V1-clause-masks
-returns-in-V1-clause-masks c = λ _. c.mask_of.ensures ∙ ap mask_of c.before-in-V1.ensures.is
+pub returns-in-Masked-clause-masks : goal.returns-in-Masked-clause-masks
+returns-in-Masked-clause-masks c = λ _. c.mask_of.ensures ∙ ap mask_of c.before-in-Masked.ensures.is

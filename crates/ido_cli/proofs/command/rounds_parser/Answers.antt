@@ -1,4 +1,0 @@
-use Rattle.ido_cli.proofs.command.rounds_parser.Goals as goal
-
-pub returns : goal.returns
-returns c = rw c.value_parser.ensures at c.range.ensures

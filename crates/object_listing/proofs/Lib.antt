@@ -1,0 +1,2 @@
+mod CodeLimits
+mod WorkedListing
