@@ -23,7 +23,8 @@ use Rattle.eviction_laws.proofs.Public.{lives_enter_none, others_enter_none, sta
 use Rattle.hart_runs.proofs.Public.{stopped_stay}
 use Rattle.compiler_correctness.specs.Translations.{GoOn}
 use Rattle.compiler_correctness.specs.Delays.{is_active_step, active_steps, has_waited}
-use Rattle.crash_bounds.specs.Rounds.{HaveNoCrash, KeepsAtMost}
+use Rattle.crash_bounds.specs.Rounds.{KeepsAtMost}
+use Rattle.compiler_correctness.specs.Translations.{HaveNoCrash}
 use Rattle.crash_bounds.specs.Rates.{is_enabled_step, enabled_steps, AreEnabled, entry_bound, sum_below}
 use Rattle.crash_bounds.proofs.ActiveSteps.{IsSound, active, counted, sound_then}
 use Rattle.crash_bounds.proofs.CountedLocks.{missing_most}

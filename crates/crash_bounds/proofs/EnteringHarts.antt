@@ -19,7 +19,7 @@ use Rattle.eviction_laws.specs.Evictions.{is_entering}
 use Rattle.eviction_laws.proofs.Public.{GoesAlike, alike_refl, step_alike}
 use Rattle.hart_runs.specs.Calls.{IsInPhase, TakesLocks, AwaitsOthers}
 use Rattle.hart_runs.proofs.Public.{takes_step, waits_step, resumes_step, stopped_stay}
-use Rattle.crash_bounds.specs.Rounds.{HaveNoCrash}
+use Rattle.compiler_correctness.specs.Translations.{HaveNoCrash}
 use Rattle.crash_bounds.proofs.CountedLocks.{count_missing, count_stays, count_less}
 
 -- ---- How far a hart is

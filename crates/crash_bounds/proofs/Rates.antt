@@ -20,7 +20,8 @@ use Rattle.compiler_correctness.proofs.Public.{gets_on_after, go_on_without_cras
 use Rattle.deadlock_freedom.specs.Deadlocks.{StopsAreSettled}
 use Rattle.crash_bounds.specs.Rounds.{KeepsAtMost}
 use Rattle.crash_bounds.specs.Losses.{kept_state}
-use Rattle.crash_bounds.specs.Rates.{AreEnabled, EndsWithin, HartsGetOn, MachinesEnd, MachinesGetOn, OrderedMachinesSettle, all_begun_among, begun_among, enabled_steps, entry_bound}
+use Rattle.crash_bounds.specs.Rates.{AreEnabled, EndsWithin, HartsGetOn, MachinesEnd, MachinesGetOn}
+use Rattle.crash_bounds.specs.Rates.{OrderedMachinesSettle, all_begun_among, begun_among, enabled_steps, entry_bound}
 use Rattle.crash_bounds.specs.Rates.{most_below, step_bound, sum_below}
 use Rattle.crash_bounds.proofs.ActiveSteps.{gained, slow, sound_first, sound_world}
 use Rattle.crash_bounds.proofs.BegunSteps.{Gains, counted_in, gained_by}

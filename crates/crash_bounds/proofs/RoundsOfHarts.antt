@@ -16,7 +16,8 @@ use Rattle.log_schemes.specs.Schemes.{numbers_from}
 use Rattle.machine_model.specs.Machine.{record_of}
 use Rattle.eviction_laws.specs.Evictions.{NoneEnters}
 use Rattle.hart_runs.specs.Laws.{own_steps, is_step_of}
-use Rattle.crash_bounds.specs.Rounds.{HaveNoCrash, HoldRounds, no_more, one_more, KeepsAtMost}
+use Rattle.crash_bounds.specs.Rounds.{HoldRounds, no_more, one_more, KeepsAtMost}
+use Rattle.compiler_correctness.specs.Translations.{HaveNoCrash}
 use Rattle.crash_bounds.proofs.CountedLocks.{missing_most}
 use Rattle.crash_bounds.proofs.EnteringHarts.{IsEntering, taking, IsWithin, Lowers, Goes, TakesMove, event_lowers, step_goes, stays_lowered, lowers_on}
 use Rattle.crash_bounds.proofs.EnteringHarts.{left_most, left_none, missing_of, is_gathering}
@@ -131,7 +132,8 @@ module _ (log : Log) (program : List (List Slot)) (mutexes : ℕ) (words : List 
   gathering_first true = refl
   gathering_first false = refl
 
-  fresh_gather : (at count h : ℕ) (hart : Hart) → slice_get (map (λ thread. fresh_hart program (phase_of thread) thread) (numbers_from at count)) h ≡ Some hart →
+  fresh_gather : (at count h : ℕ) (hart : Hart) →
+      slice_get (map (λ thread. fresh_hart program (phase_of thread) thread) (numbers_from at count)) h ≡ Some hart →
       is_gathering hart.phase ≡ true
   fresh_gather at zero h hart e = absurd (let no : None ≡ Some hart = e in cc)
   fresh_gather at (suc count) zero hart e =

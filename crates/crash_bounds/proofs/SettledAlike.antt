@@ -1,4 +1,5 @@
--- Where no hart enters recovery, a machine is settled exactly where no hart holds a lock; so evictions don't matter to that, and not to what it is settled with.
+-- Where no hart enters recovery, a machine is settled exactly where no hart holds a lock; so evictions don't matter to that, and not to what it is settled
+-- with.
 use Rattle.std.proofs.Common.{◌≡◌, ◌≢◌, ◌⊎◌, inl, inr, refl, ℕ, zero, suc, ◌+◌, ◌/◌, ◌%◌, ◌<◌, ◌≤◌, List, [], ◌∷◌, ◌++◌, length, map, ap, sym, ◌∙◌, subst}
 use Rattle.std.proofs.Common.{arith, Bool, true, false, Option, Some, None, ℤ}
 use Rattle.std.specs.Prelude.{slice_get, ◌&&◌, ◌==◌}

@@ -3,11 +3,11 @@ use Rattle.std.specs.Prelude.{ℕ, ◌+◌, List, ◌∷◌, ◌++◌, length}
 use Rattle.machine_events.specs.declared.event.Event.{Event}
 use Rattle.machine_events.specs.declared.event.Event.TheVariants.{Crash}
 use Rattle.eviction_laws.specs.Evictions.{NoneEnters}
-use Rattle.compiler_correctness.specs.Translations.{Translation, world}
+use Rattle.compiler_correctness.specs.Translations.{HaveNoCrash, Translation, world}
 use Rattle.compiler_correctness.specs.Compilations.{IsCompilation}
 use Rattle.compiler_correctness.specs.Images.{Image, world_from}
 use Rattle.compiler_correctness.specs.WordRuns.{RunsOn}
-use Rattle.crash_bounds.specs.Rounds.{HaveNoCrash, HoldRounds, KeepsAtMost}
+use Rattle.crash_bounds.specs.Rounds.{HoldRounds, KeepsAtMost}
 
 -- After a crash, and without another, within as many rounds as a record has locks at most, and 3, no hart takes locks, waits for those that do or is about to
 -- be resumed.

@@ -1,21 +1,12 @@
 -- How soon recovery is entered: in how many rounds over the harts.
 use Rattle.std.specs.Prelude.{◌≡◌, ℕ, suc, ◌+◌, ◌<◌, ◌≤◌, List, [], ◌∷◌, ◌++◌, length}
 use Rattle.machine_events.specs.declared.event.Event.{Event}
-use Rattle.machine_events.specs.declared.event.Event.TheVariants.{Step, Evict, Crash, Start}
 use Rattle.log_schemes.specs.declared.log.Log.{Log}
 use Rattle.log_schemes.specs.declared.keeping.Keeping.TheVariants.{Masked, Listed}
 use Rattle.log_schemes.specs.Schemes.{keeping_of}
 use Rattle.ido_base.specs.Words.{Word}
 use Rattle.machine_model.specs.Machine.{record_of}
 use Rattle.hart_runs.specs.Laws.{own_steps}
-
--- none of the events is a crash
-abbrev pub HaveNoCrash : List Event → Type 0
-HaveNoCrash [] = Unit {0}
-HaveNoCrash (Step h ∷ events) = HaveNoCrash events
-HaveNoCrash (Evict line mask ∷ events) = HaveNoCrash events
-HaveNoCrash (Crash ∷ events) = ⊥
-HaveNoCrash (Start ∷ events) = HaveNoCrash events
 
 -- each of so many harts makes a step, or more, in whatever order, and anything may happen between
 abbrev pub IsRound : (harts : ℕ) → List Event → Type 0

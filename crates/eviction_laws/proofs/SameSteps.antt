@@ -20,10 +20,12 @@ use Rattle.rv64_isa.specs.Programs.{fetched}
 use Rattle.machine_model.specs.declared.phase.Phase.{Phase}
 use Rattle.machine_model.specs.declared.phase.Phase.TheVariants.{Take, Wait, Resume, Run, Done, Ended}
 use Rattle.machine_model.specs.Machine.{Hart, World, Outcome, with_hart, moved, gone_on, stuck, drain_one, access, queue_limit, cleaned, fenced, with_holder}
-use Rattle.machine_model.specs.Machine.{acquired, released, ended, called, applied, executed, hart_step, over_after, done_if_over, run_step, phase_step, stepped}
+use Rattle.machine_model.specs.Machine.{acquired, released, ended, called, applied, executed, hart_step}
+use Rattle.machine_model.specs.Machine.{over_after, done_if_over, run_step, phase_step, stepped}
 use Rattle.machine_model.specs.Machine.{has_stopped, happens, after_event, after_events, reply_to, start_of, started_anew, fresh_hart, anew, all_anew}
 use Rattle.log_schemes.specs.Schemes.{numbers_from}
-use Rattle.machine_model.specs.Schedule.{KeepsOn, Steps, has_moved, is_running, completing, is_mark, passes_mark, with_begun, with_bound, with_kept, with_all_kept}
+use Rattle.machine_model.specs.Schedule.{KeepsOn, Steps, has_moved, is_running, completing, is_mark}
+use Rattle.machine_model.specs.Schedule.{passes_mark, with_begun, with_bound, with_kept, with_all_kept}
 use Rattle.machine_model.specs.Schedule.{with_step, stores_point, steps_after, steps_along, releases_last, released_after, released_along}
 use Rattle.machine_model.proofs.Public.{get-set_same, get-set_other, anew_found}
 use Rattle.eviction_laws.specs.Evictions.{is_entering, NoneEnters, DifferInEvictions, no_more, both_step, one_evicts, other_evicts, step_replies, values_of}
@@ -183,7 +185,8 @@ module _ (w : World) (ws : List Word) (same : values_of ws ≡ values_of w.words
     unfolding v
     calls number lock =
         both w h (number == 1) _ _ _ _ (acquires lock (slice_get w.holders lock))
-        (both w h (number == 2) _ _ _ _ (releases lock (slice_get w.holders lock)) (both w h (number == 3) _ _ _ _ (ends (least_held w.holders h) refl) (stays _)))
+        (both w h (number == 2) _ _ _ _ (releases lock (slice_get w.holders lock))
+        (both w h (number == 3) _ _ _ _ (ends (least_held w.holders h) refl) (stays _)))
 
     fences : (queue : List Entry) → GoesAlike w h (fenced w h hart queue) (fenced v h hart queue)
     unfolding v
@@ -223,7 +226,8 @@ module _ (w : World) (ws : List Word) (same : values_of ws ≡ values_of w.words
       done : Hart
       done = record hart { phase = Done }
 
-      by : (over : Bool) → over_after w o h ≡ over → GoesAlike w h (cond over (with_hart o h done) o, reply) (cond over (with_hart (record o { words = us }) h done) (record o { words = us }), reply)
+      by : (over : Bool) → over_after w o h ≡ over →
+          GoesAlike w h (cond over (with_hart o h done) o, reply) (cond over (with_hart (record o { words = us }) h done) (record o { words = us }), reply)
       by true over = record {
         reply = refl;
         worlds = record { all_but_words = refl; values = alike.worlds.values };
@@ -373,7 +377,8 @@ module _ (marks : List (List ℕ)) (program : List (List Slot)) where
 
     same_releases : (g h : ℕ) → releases_last program u (Step g) h ≡ releases_last program w (Step g) h
     same_releases g h =
-        ap (λ (holders : List (Option ℕ)). (g == h) && (not (holds_none holders h) && holds_none (after_event program u (Step h)).holders h)) (same_holders w u d)
+        ap (λ (holders : List (Option ℕ)). (g == h) && (not (holds_none holders h) && holds_none (after_event program u (Step h)).holders h))
+        (same_holders w u d)
         ∙ ap (λ (holders : List (Option ℕ)). (g == h) && (not (holds_none w.holders h) && holds_none holders h))
         (same_holders _ _ (alike h).worlds)
 

@@ -1,5 +1,6 @@
 -- The values of words, whatever of them is durable.
-use Rattle.std.proofs.Common.{◌≡◌, refl, ℕ, zero, suc, ◌+◌, ◌-◌, ◌*◌, ◌/◌, ◌%◌, List, [], ◌∷◌, ◌++◌, length, map, take, drop, set, ap, sym, ◌∙◌, cond, Bool, true, false}
+use Rattle.std.proofs.Common.{◌≡◌, refl, ℕ, zero, suc, ◌+◌, ◌-◌, ◌*◌, ◌/◌, ◌%◌, List, [], ◌∷◌, ◌++◌}
+use Rattle.std.proofs.Common.{length, map, take, drop, set, ap, sym, ◌∙◌, cond, Bool, true, false}
 use Rattle.std.specs.Prelude.{slice_index, slice_index_or, ◌==◌}
 use Rattle.std.proofs.lemmas.List.{map-set, take-map, drop-map}
 use Rattle.ido_base.specs.Words.{Word, Entry, word_of, word_at, last_position, live_value, written_back, with_value, with_part, part, loaded, stored, entry_of}
@@ -29,7 +30,8 @@ chosen_values false words at position = refl
 evicted_values_from : (count : ℕ) (words : List Word) (at mask : ℕ) → values_of (evicted_from words at mask count) ≡ values_of words
 evicted_values_from zero words at mask = refl
 evicted_values_from (suc count) words at mask =
-    evicted_values_from count (cond (mask % 2 == 1) (set words at (written_back (word_at words at) (last_position (word_at words at)))) words) (at + 1) (mask / 2)
+    evicted_values_from count (cond (mask % 2 == 1) (set words at (written_back (word_at words at) (last_position (word_at words at)))) words)
+    (at + 1) (mask / 2)
     ∙ chosen_values (mask % 2 == 1) words at (last_position (word_at words at))
 
 pub evicted_values : (words : List Word) (line mask : ℕ) → values_of (evicted words line mask) ≡ values_of words

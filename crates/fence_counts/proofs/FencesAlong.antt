@@ -1,5 +1,6 @@
 -- What is finished of fences along events, and what is stored of points.
-use Rattle.std.proofs.Common.{◌≡◌, ◌≢◌, refl, ℕ, ◌+◌, ◌*◌, ◌<◌, ◌≤◌, List, [], ◌∷◌, ◌++◌, Bool, true, false, if◌then◌else◌, slice_get, Some, ap, sym, subst, arith}
+use Rattle.std.proofs.Common.{◌≡◌, ◌≢◌, refl, ℕ, ◌+◌, ◌*◌, ◌<◌, ◌≤◌, List, [], ◌∷◌, ◌++◌, Bool}
+use Rattle.std.proofs.Common.{true, false, if◌then◌else◌, slice_get, Some, ap, sym, subst, arith}
 use Rattle.machine_events.specs.declared.event.Event.{Event}
 use Rattle.machine_events.specs.declared.event.Event.TheVariants.{Step, Evict, Crash, Start}
 use Rattle.machine_events.specs.Cores.{finished_fences, point_stores}
@@ -115,7 +116,8 @@ module _ (fragments_step : FragmentsStep) (cores_step : CoresStep) (law : Fragme
 
     -- an event more, by which the life goes on or another one begins
     one_more : (event : Event) (events : List Event) (w : World) (finished stored crashes : ℕ) →
-        Comes (after_event y.runs.program w event) events ((if finishes w event then 1 else 0) + finished) ((if stores w event then 1 else 0) + stored) crashes →
+        Comes (after_event y.runs.program w event) events ((if finishes w event then 1 else 0) + finished)
+        ((if stores w event then 1 else 0) + stored) crashes →
         crashes_in (event ∷ events) ≡ crashes_in events → Comes w (event ∷ events) finished stored crashes
     one_more event events w finished stored crashes later same = record {
       stands = later.stands;
@@ -126,7 +128,8 @@ module _ (fragments_step : FragmentsStep) (cores_step : CoresStep) (law : Fragme
           (sym same) later.near);
     }
 
-    along : (events : List Event) (w : World) (stands : Simulates y s w) (finished stored crashes : ℕ) → AreNear 2 finished stored crashes (stands.ghosts h).rest →
+    along : (events : List Event) (w : World) (stands : Simulates y s w) (finished stored crashes : ℕ) →
+        AreNear 2 finished stored crashes (stands.ghosts h).rest →
         Comes w events finished stored crashes
     along [] w stands finished stored crashes near =
         record { stands = stands; near = record { no_more = omega (arith, near.no_more); no_less = omega (arith, near.no_less) } }
@@ -135,7 +138,8 @@ module _ (fragments_step : FragmentsStep) (cores_step : CoresStep) (law : Fragme
         (goes_near (Step g) w stands finished stored crashes (step_no_crash g) near)) refl
     along (Evict line mask ∷ events) w stands finished stored crashes near =
         one_more (Evict line mask) events w finished stored crashes (along events (after_event y.runs.program w (Evict line mask))
-        (then_goes (Evict line mask) w stands).next _ _ crashes (goes_near (Evict line mask) w stands finished stored crashes (evict_no_crash line mask) near)) refl
+        (then_goes (Evict line mask) w stands).next _ _ crashes (goes_near (Evict line mask) w stands finished stored crashes (evict_no_crash line mask) near))
+        refl
     along (Start ∷ events) w stands finished stored crashes near =
         one_more Start events w finished stored crashes (along events (after_event y.runs.program w Start) (then_goes Start w stands).next _ _ crashes
         (goes_near Start w stands finished stored crashes start_no_crash near)) refl
