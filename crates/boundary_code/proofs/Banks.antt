@@ -3,7 +3,7 @@ use Rattle.std.proofs.Common.{◌≡◌, ◌≢◌, ℕ, zero, suc, ◌+◌, ◌
 use Rattle.std.proofs.Common.{refl, ap, sym, ◌∙◌, arith, Bool, true, false, ◌==◌, lit<, if◌then◌else◌}
 use Rattle.std.specs.Prelude.{slice_set, filter}
 use Rattle.std.specs.List.{list_all, list_any}
-use Rattle.std.proofs.lemmas.Bool.{and_parts, eqb-false}
+use Rattle.std.proofs.lemmas.Bool.{and_parts}
 use Rattle.std.proofs.lemmas.Bool.Decides.{nat_tests}
 use Rattle.ido_base.specs.declared.limits.TheConstants.{MOST_THREADS}
 use Rattle.log_schemes.specs.Layout.{log_of, bank_bytes, slot_at}
@@ -16,15 +16,16 @@ use Rattle.rv64_isa.specs.declared.instr.StoreKind.TheVariants.{Sd}
 use Rattle.rv64_isa.specs.Rows.{Effect, Continues, Stores, Cleans, row, read, next, displaced}
 use Rattle.rv64_isa.specs.Arithmetic.{sign_extended, result_of}
 use Rattle.memory_layout.specs.Roles.{is_temporary, is_kept}
-use Rattle.operator_code.specs.StraightLineCode.{IsConstant, registers_after}
+use Rattle.operator_code.specs.StraightLineCode.{IsConstant}
 use Rattle.boundary_code.specs.Boundaries.{lines_in_use, IsOnSide, IsUnderWay}
 use Rattle.log_schemes.specs.declared.keeping.Keeping.TheVariants.{Listed}
 use Rattle.log_schemes.specs.Schemes.{bank_lines, bank_slots, keeping_of, lines_in_bank, lock_slot, numbers_from, register_slot, size_of}
 use Rattle.log_schemes.proofs.Public.{scheme, size_holds}
-use Rattle.boundary_code.specs.links.InstructionLists.{KeptCode, keep_slots, clean_lines, bank_part, opening_list}
+use Rattle.boundary_code.specs.Boundaries.{clean_lines, keep_slots}
+use Rattle.boundary_code.specs.links.InstructionLists.{opening_list}
 use Rattle.operator_code.proofs.Public.{RunsFrom, stop, go, store, clean, along, constant_runs, read_same, read_other, length-changed, small_immediate}
 use Rattle.operator_code.proofs.Public.{add_small, displaced_small}
-use Rattle.boundary_code.proofs.Registers.{ready, ready_still, flip, bank_immediate, base_small, not_temporary}
+use Rattle.boundary_code.proofs.Registers.{ready, ready_still, flip, bank_immediate, base_small}
 
 -- ---- Slots
 
@@ -226,59 +227,4 @@ opened log thread value bank address code x pc t at is_log is_first =
       left = x4;
       runs = along (flips ++ begins) (Store Sd 7 30 64 ∷ []) x x4 x4 pc [] (Stores (slot_at log thread other 0) 8 value ∷ []) both last;
       ready = start;
-    }
-
-pub banked : (log : Log) (thread value bank : ℕ) (address : List Instr) (kept : KeptCode) (rest : List (ℕ × ℕ)) (live : List ℕ) (x : List ℕ) (pc : ℕ) →
-    thread < MOST_THREADS → AreKept log live → IsOnSide log bank x → IsConstant 31 (log_of log thread) address → IsConstant 7 value kept.first →
-    ((y : List ℕ) (at : ℕ) → IsUnderWay log thread (1 - bank) x y → Written log thread (1 - bank) x y kept.others at (stores_of log thread (1 - bank) rest)) →
-    Written log thread (1 - bank) x x (bank_part log address kept live) pc
-    ((stores_of log thread (1 - bank) ((0, value) ∷ rest) ++ map (λ r. Stores (slot_at log thread (1 - bank) (register_slot log r)) 8 (read x r)) live) ++
-    map (λ line. Cleans (slot_at log thread (1 - bank) (8 * line))) (lines_in_use log kept.slots))
-banked log thread value bank address kept rest live x pc t keeps at is_log is_first others =
-    let other : ℕ = 1 - bank in
-    let below : other < 2 = omega arith in
-    let offset : ℕ = bank_bytes log * other in
-    let place : ℕ = log_of log thread in
-    let x1 : List ℕ = slice_set x 3 offset in
-    let x2 : List ℕ = slice_set x1 31 place in
-    let x3 : List ℕ = slice_set x2 30 (place + offset) in
-    let x4 : List ℕ = slice_set x3 7 value in
-    let l1 : length x1 ≡ 32 = length-changed x 3 offset at.count in
-    let l2 : length x2 ≡ 32 = length-changed x1 31 place l1 in
-    let l3 : length x3 ≡ 32 = length-changed x2 30 (place + offset) l2 in
-    let z1 : read x1 0 ≡ 0 = read_other x 3 0 offset refl ∙ at.zero_is in
-    let z3 : read x3 0 ≡ 0 = read_other x2 30 0 (place + offset) refl ∙ read_other x1 31 0 place refl ∙ z1 in
-    let o2 : read x2 3 ≡ offset = read_other x1 31 3 place refl ∙ read_same x 3 offset at.count (lit< tt) in
-    let start = ready log thread other value x at.count at.zero_is in
-    let flips : List Instr = OpImmediate Xori 3 3 (bank_bytes log) ∷ address in
-    let begins : List Instr = Op Add 30 31 3 ∷ kept.first in
-    let stores : List Instr = Store Sd 7 30 64 ∷ kept.others in
-    let first : RunsFrom flips x pc [] x2 =
-    go (OpImmediate Xori 3 3 (bank_bytes log)) address x x1 pc [] x2 (flip_row log x bank pc at) (constant_runs 31 place address x1 (pc + 4) is_log l1 z1) in
-    let pc2 : ℕ = pc + 4 * length flips in
-    let second : RunsFrom begins x2 pc2 [] x4 =
-    go (Op Add 30 31 3) kept.first x2 x3 pc2 [] x4
-    (base_row x2 place offset pc2 (read_same x1 31 place l1 (lit< tt)) o2 (omega (arith, base_small log thread other t below)))
-    (constant_runs 7 value kept.first x3 (pc2 + 4) is_first l3 z3) in
-    let a : RunsFrom (flips ++ begins) x pc [] x4 = along flips begins x x2 x4 pc [] [] first second in
-    let pc3 : ℕ = pc + 4 * length (flips ++ begins) in
-    let listed = others x4 (pc3 + 4) start in
-    let locks : List Effect = stores_of log thread other ((0, value) ∷ rest) in
-    let third : RunsFrom stores x4 pc3 locks listed.left =
-    store (Store Sd 7 30 64) kept.others x4 pc3 (slot_at log thread other 0) 8 value (stores_of log thread other rest) listed.left
-    (first_row log thread other x x4 value pc3 t below start (read_same x3 7 value l3 (lit< tt))) listed.runs in
-    let b : RunsFrom (flips ++ begins ++ stores) x pc locks listed.left = along (flips ++ begins) stores x x4 listed.left pc [] locks a third in
-    let slots : List Effect = map (λ r. Stores (slot_at log thread other (register_slot log r)) 8 (read x r)) live in
-    let pc4 : ℕ = pc + 4 * length (flips ++ begins ++ stores) in
-    let fourth : RunsFrom (keep_slots log live) listed.left pc4 slots listed.left =
-    slots_run log thread other x listed.left live pc4 t below keeps listed.ready in
-    let c : RunsFrom (flips ++ begins ++ stores ++ keep_slots log live) x pc (locks ++ slots) listed.left =
-    along (flips ++ begins ++ stores) (keep_slots log live) x listed.left listed.left pc locks slots b fourth in
-    let done = cleans_run log thread other x listed.left (lines_in_use log kept.slots) (pc + 4 * length (flips ++ begins ++ stores ++ keep_slots log live)) t below
-    (are_lines log kept.slots) listed.ready in
-    record {
-      left = done.left;
-      runs = along (flips ++ begins ++ stores ++ keep_slots log live) (clean_lines (lines_in_use log kept.slots)) x listed.left done.left pc
-          (locks ++ slots) (map (λ line. Cleans (slot_at log thread other (8 * line))) (lines_in_use log kept.slots)) c done.runs;
-      ready = done.ready;
     }

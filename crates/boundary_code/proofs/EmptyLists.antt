@@ -1,5 +1,5 @@
 -- A list of locks is empty exactly where its mask is 0.
-use Rattle.std.proofs.Common.{◌≡◌, ◌≢◌, ℕ, ◌^◌, ◌<◌, ◌==◌, List, [], ◌∷◌, refl, ap, arith, sym, ◌∙◌, true, false, inl, inr, pow_pos}
+use Rattle.std.proofs.Common.{◌≡◌, ◌≢◌, ℕ, ◌^◌, ◌<◌, ◌==◌, List, [], ◌∷◌, length, refl, ap, arith, sym, ◌∙◌, true, false, inl, inr, pow_pos}
 use Rattle.std.proofs.lemmas.Bool.{cases_Bool, eqb-true, eqb-false}
 use Rattle.ido_base.specs.Locks.{locks_in, mask_with}
 use Rattle.ido_base.proofs.Public.{mask_of_locks, no_locks}
@@ -28,3 +28,12 @@ empty_where mask small = elim (cases_Bool (mask == 0)) [
   | inr some ↦
       not_empty (locks_in mask) (λ e. eqb-false mask 0 some (sym (mask_of_locks mask small) ∙ ap mask_with e)) ∙ sym some
 ]
+
+-- a list of no numbers, and of some
+pub none_long : (locks : List ℕ) → length locks ≡ 0 → is_empty locks ≡ true
+none_long [] e = refl
+none_long (lock ∷ locks) e = absurd (let z : ⊥ = omega (arith, e) in z)
+
+pub some_long : (locks : List ℕ) → length locks ≢ 0 → is_empty locks ≡ false
+some_long [] some = absurd (some refl)
+some_long (lock ∷ locks) some = refl

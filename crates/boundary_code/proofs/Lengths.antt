@@ -7,9 +7,9 @@ use Rattle.log_schemes.specs.declared.log.Log.{Log}
 use Rattle.rv64_isa.specs.declared.instr.Instr.{Instr}
 use Rattle.rv64_isa.specs.declared.instr.Instr.TheVariants.{Fence, Store}
 use Rattle.rv64_isa.specs.declared.instr.StoreKind.TheVariants.{Sd}
-use Rattle.boundary_code.specs.Boundaries.{lines_in_use, keep_locks, number_words}
+use Rattle.boundary_code.specs.Boundaries.{clean_lines, commit, keep_locks, keep_slots, lines_in_use, number_words}
+use Rattle.boundary_code.specs.links.InstructionLists.{bank_list, last_list}
 use Rattle.log_schemes.specs.Schemes.{bank_lines, lines_in_bank, lock_slot, numbers_from, size_of}
-use Rattle.boundary_code.specs.links.InstructionLists.{KeptCode, keep_slots, clean_lines, commit, boundary_list, last_list}
 
 slots_length : (log : Log) (live : List ℕ) → length (keep_slots log live) ≡ length live
 slots_length log [] = refl
@@ -42,13 +42,13 @@ numbers_count : (at count : ℕ) → length (numbers_from at count) ≡ count
 numbers_count at zero = refl
 numbers_count at (suc count) = ap (λ (n : ℕ). suc n) (numbers_count (at + 1) count)
 
-pub boundary_short : (log : Log) (address : List Instr) (kept : KeptCode) (live : List ℕ) (resume : ℕ) → length address ≤ 8 → length kept.first ≤ 8 →
-    length (boundary_list log address kept live resume) ≤ length live + length kept.others + 27 + 2 * lines_in_bank (size_of log)
-boundary_short log address kept live resume l m =
+pub boundary_short : (log : Log) (address first others : List Instr) (slots live : List ℕ) (resume : ℕ) → length address ≤ 8 → length first ≤ 8 →
+    length (bank_list log address first others slots live resume) ≤ length live + length others + 27 + 2 * lines_in_bank (size_of log)
+boundary_short log address first others used live resume l m =
     let slots : length (keep_slots log live) ≡ length live = slots_length log live in
     let many : length (bank_lines log) ≡ lines_in_bank (size_of log) = numbers_count 0 (lines_in_bank (size_of log)) in
-    let cleans : length (clean_lines (lines_in_use log kept.slots)) ≡ 2 * length (lines_in_use log kept.slots) = cleans_length (lines_in_use log kept.slots) in
-    let lines = lines_length log kept.slots in
+    let cleans : length (clean_lines (lines_in_use log used)) ≡ 2 * length (lines_in_use log used) = cleans_length (lines_in_use log used) in
+    let lines = lines_length log used in
     simp length-append (omega (arith, slots, cleans, lines, many, l, m))
 
 pub last_short : (address : List Instr) (live : List ℕ) → length address ≤ 8 → length (last_list address) ≤ length live + 27

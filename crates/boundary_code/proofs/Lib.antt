@@ -3,9 +3,9 @@ mod EmptyLists
 mod Registers
 mod Banks
 mod Points
-mod WholeBoundaries
-mod BoundariesByPieces
-mod ListParts
+mod LastBoundaries
+mod MadeBoundaries
+mod BoundaryParts
 mod Sides
 mod Worked
 mod Lengths

@@ -7,6 +7,7 @@ use Rattle.std.proofs.Math.Nat.{mod-add-mod}
 use Rattle.std.proofs.lemmas.Int.{ints}
 use Rattle.log_schemes.specs.Layout.{log_of, bank_bytes, point_at}
 use Rattle.log_schemes.specs.declared.log.Log.{Log}
+use Rattle.rv64_isa.specs.declared.instr.Instr.{Instr}
 use Rattle.rv64_isa.specs.declared.instr.Instr.TheVariants.{Auipc, Store, OpImmediate, ShiftImmediate, Op, CboClean, Fence}
 use Rattle.rv64_isa.specs.declared.instr.Operation.TheVariants.{Add, Srl}
 use Rattle.rv64_isa.specs.declared.instr.ImmediateOperation.TheVariants.{Addi}
@@ -17,7 +18,7 @@ use Rattle.rv64_isa.specs.Arithmetic.{sign_extended, result_of}
 use Rattle.rv64_isa.specs.Signed.{twos_complement}
 use Rattle.memory_layout.specs.Roles.{is_temporary}
 use Rattle.boundary_code.specs.Boundaries.{IsUnderWay}
-use Rattle.boundary_code.specs.links.InstructionLists.{point, commit}
+use Rattle.boundary_code.specs.Boundaries.{commit, point}
 use Rattle.log_schemes.specs.Schemes.{distance_bits, size_of}
 use Rattle.operator_code.proofs.Public.{RunsFrom, stop, go, store, clean, fence, read_same, read_other, length-changed, displaced_small, signed12, signed32}
 use Rattle.boundary_code.proofs.Registers.{bank_bit, log_small, not_temporary}
@@ -152,14 +153,13 @@ committed log thread bank r t x z pc few b c h =
     read_other z 30 31 v1 refl ∙ h.logged in
     let value : read z4 30 ≡ v3 = read_same z3 30 v3 l3 (lit< tt) in
     let last : List Effect = Stores (point_at log thread) 8 v3 ∷ Cleans (point_at log thread) ∷ Fences ∷ [] in
+    let shift : Instr = ShiftImmediate Srli 7 3 (distance_bits (size_of log)) in
     record {
       end = z4;
       runs = fence Fence (point log r ++ commit 30) z pc last z4 (fence_row z pc)
-          (go (Auipc 30 (upper_part r)) (OpImmediate Addi 30 30 (low_part r) ∷ ShiftImmediate Srli 7 3 (distance_bits (size_of log)) ∷ Op Add 30 30 7 ∷ commit 30) z
-          z1 at last
-          z4 (auipc_row z (upper_part r) at)
-          (go (OpImmediate Addi 30 30 (low_part r)) (ShiftImmediate Srli 7 3 (distance_bits (size_of log)) ∷ Op Add 30 30 7 ∷ commit 30) z1 z2 (at + 4) last z4 second
-          (go (ShiftImmediate Srli 7 3 (distance_bits (size_of log))) (Op Add 30 30 7 ∷ commit 30) z2 z3 (at + 4 + 4) last z4 third
+          (go (Auipc 30 (upper_part r)) (OpImmediate Addi 30 30 (low_part r) ∷ shift ∷ Op Add 30 30 7 ∷ commit 30) z z1 at last z4 (auipc_row z (upper_part r) at)
+          (go (OpImmediate Addi 30 30 (low_part r)) (shift ∷ Op Add 30 30 7 ∷ commit 30) z1 z2 (at + 4) last z4 second
+          (go shift (Op Add 30 30 7 ∷ commit 30) z2 z3 (at + 4 + 4) last z4 third
           (go (Op Add 30 30 7) (commit 30) z3 z4 (at + 4 + 4 + 4) last z4 fourth
           (commit_run log z4 30 thread v3 (at + 4 + 4 + 4 + 4) few logged value)))));
       left = record {

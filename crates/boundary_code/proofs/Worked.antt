@@ -8,21 +8,21 @@ use Rattle.rv64_isa.specs.declared.instr.ImmediateOperation.TheVariants.{Addi}
 use Rattle.rv64_isa.specs.Rows.{Stores, Cleans, Fences, row, read}
 use Rattle.rv64_isa.specs.Arithmetic.{result_of}
 use Rattle.operator_code.specs.StraightLineCode.{effects, registers_after}
-use Rattle.boundary_code.specs.Boundaries.{Boundary, boundary_effects, lines_in_use, keep_locks}
-use Rattle.boundary_code.specs.links.InstructionLists.{boundary_list, last_list}
+use Rattle.boundary_code.specs.Boundaries.{Boundary, boundary_effects, boundary_list, lines_in_use}
 
 first : Boundary
 first = record { log = V1; thread = 0; locks = 0 ∷ []; live = []; resume = pos 0 }
 
 code : List Instr
-code = boundary_list V1 (Lui 31 0x2_0000 ∷ []) (record { first = OpImmediate Addi 7 0 1 ∷ []; others = []; slots = 0 ∷ [] }) [] 0
+unfolding first
+code = boundary_list first (Lui 31 0x2_0000 ∷ []) (OpImmediate Addi 7 0 1 ∷ []) []
 
 zeros : List ℕ
 zeros = replicate 32 0
 
 seen_of_code : effects code zeros 0x1_0000 ≡
     Stores 0x2000_0140 8 1 ∷ Cleans 0x2000_0140 ∷ Fences ∷ Stores 0x2000_0000 8 0x1_003D ∷ Cleans 0x2000_0000 ∷ Fences ∷ []
-unfolding code zeros row result_of
+unfolding first code zeros row result_of
 seen_of_code = refl
 
 as_defined : boundary_effects first 0 0x1_003C zeros ≡ effects code zeros 0x1_0000
@@ -30,17 +30,20 @@ unfolding first code zeros row result_of
 as_defined = refl
 
 other_bank : read (registers_after code zeros 0x1_0000) 3 ≡ 256
-unfolding code zeros row result_of
+unfolding first code zeros row result_of
 other_bank = refl
 
 -- after a boundary that wrote the second bank, the next one writes the first
 back : effects code (slice_set zeros 3 256) 0x1_0000 ≡
     Stores 0x2000_0040 8 1 ∷ Cleans 0x2000_0040 ∷ Fences ∷ Stores 0x2000_0000 8 0x1_003C ∷ Cleans 0x2000_0000 ∷ Fences ∷ []
-unfolding code zeros row result_of
+unfolding first code zeros row result_of
 back = refl
 
-no_bank : effects (last_list (Lui 31 0x2_0000 ∷ [])) zeros 0x1_0000 ≡ Fences ∷ Stores 0x2000_0000 8 0 ∷ Cleans 0x2000_0000 ∷ Fences ∷ []
-unfolding zeros row result_of
+ending : Boundary
+ending = record { log = V1; thread = 0; locks = []; live = []; resume = pos 0 }
+
+no_bank : effects (boundary_list ending (Lui 31 0x2_0000 ∷ []) [] []) zeros 0x1_0000 ≡ Fences ∷ Stores 0x2000_0000 8 0 ∷ Cleans 0x2000_0000 ∷ Fences ∷ []
+unfolding ending zeros row result_of
 no_bank = refl
 
 lines_of_pending : lines_in_use V1 (0 ∷ 8 ∷ 28 ∷ 29 ∷ []) ≡ 0 ∷ 1 ∷ 3 ∷ []
@@ -55,14 +58,13 @@ lock_numbers : List (List Instr)
 lock_numbers = (OpImmediate Addi 5 0 5 ∷ []) ∷ (OpImmediate Addi 5 0 9 ∷ []) ∷ []
 
 list_code : List Instr
-unfolding lock_numbers
-list_code = boundary_list V2 (Lui 31 0x2_0000 ∷ [])
-    (record { first = OpImmediate Addi 7 0 2 ∷ []; others = keep_locks V2 0 lock_numbers; slots = 0 ∷ 32 ∷ 33 ∷ 8 ∷ [] }) (8 ∷ []) 0
+unfolding listing lock_numbers
+list_code = boundary_list listing (Lui 31 0x2_0000 ∷ []) (OpImmediate Addi 7 0 2 ∷ []) lock_numbers
 
 seen_of_list : effects list_code zeros 0x1_0000 ≡
     Stores 0x2000_0440 8 2 ∷ Stores 0x2000_0540 8 5 ∷ Stores 0x2000_0548 8 9 ∷ Stores 0x2000_0480 8 0 ∷
     Cleans 0x2000_0440 ∷ Cleans 0x2000_0480 ∷ Cleans 0x2000_0540 ∷ Fences ∷ Stores 0x2000_0000 8 0x1_0061 ∷ Cleans 0x2000_0000 ∷ Fences ∷ []
-unfolding list_code lock_numbers zeros row result_of
+unfolding listing list_code lock_numbers zeros row result_of
 seen_of_list = refl
 
 listed_as_defined : boundary_effects listing 0 0x1_0060 zeros ≡ effects list_code zeros 0x1_0000
@@ -70,5 +72,5 @@ unfolding listing list_code lock_numbers zeros row result_of
 listed_as_defined = refl
 
 other_bank_of_list : read (registers_after list_code zeros 0x1_0000) 3 ≡ 1024
-unfolding list_code lock_numbers zeros row result_of
+unfolding listing list_code lock_numbers zeros row result_of
 other_bank_of_list = refl

@@ -1,21 +1,26 @@
 -- What the code of a boundary does.
 use Rattle.std.specs.Prelude.{◌≡◌, ◌≢◌, ℕ, ℤ, ◌+◌, ◌-◌, ◌*◌, ◌/◌, ◌%◌, ◌^◌, ◌<◌, ◌≤◌, List, [], ◌∷◌, ◌++◌, map, filter, length, Bool, true, false, ◌==◌}
-use Rattle.std.specs.Prelude.{if◌then◌else◌, Vec}
+use Rattle.std.specs.Prelude.{if◌then◌else◌, Vec, pos, negsuc, ◌≤ℤ◌}
 use Rattle.std.specs.Global.{Global}
-use Rattle.std.specs.List.{list_any}
+use Rattle.std.specs.List.{list_all, list_any}
+use Rattle.ido_base.specs.declared.limits.TheConstants.{MOST_THREADS}
+use Rattle.ido_base.specs.Locks.{mask_with}
 use Rattle.log_schemes.specs.declared.log.Log.{Log}
+use Rattle.log_schemes.specs.declared.log.TheConstants.{MOST_LISTED}
 use Rattle.log_schemes.specs.declared.keeping.Keeping.{Keeping}
 use Rattle.log_schemes.specs.declared.keeping.Keeping.TheVariants.{Masked, Listed}
-use Rattle.log_schemes.specs.Schemes.{bank_lines, keeping_of, kept_locks, lines_in_bank, lock_slot, register_slot, size_of}
+use Rattle.log_schemes.specs.Schemes.{bank_lines, distance_bits, keeping_of, kept_locks, lines_in_bank, lock_slot, register_slot, size_of}
 use Rattle.log_schemes.specs.Layout.{log_of, point_at, slot_at, bank_bytes}
-use Rattle.ido_base.specs.Locks.{locks_in, mask_with}
 use Rattle.rv64_isa.specs.declared.instr.Instr.{Instr}
-use Rattle.rv64_isa.specs.declared.instr.Instr.TheVariants.{Store}
+use Rattle.rv64_isa.specs.declared.instr.Instr.TheVariants.{Auipc, Store, OpImmediate, ShiftImmediate, Op, CboClean, Fence}
+use Rattle.rv64_isa.specs.declared.instr.Operation.TheVariants.{Add}
+use Rattle.rv64_isa.specs.declared.instr.ImmediateOperation.TheVariants.{Addi, Xori}
+use Rattle.rv64_isa.specs.declared.instr.ShiftOperation.TheVariants.{Srli}
 use Rattle.rv64_isa.specs.declared.instr.StoreKind.TheVariants.{Sd}
 use Rattle.rv64_isa.specs.Rows.{Effect, Stores, Cleans, Fences, read}
 use Rattle.rv64_isa.specs.Signed.{twos_complement}
-use Rattle.memory_layout.specs.Roles.{bank_offset, is_temporary}
-use Rattle.operator_code.specs.StraightLineCode.{effects, registers_after}
+use Rattle.memory_layout.specs.Roles.{bank_offset, is_kept, is_temporary}
+use Rattle.operator_code.specs.StraightLineCode.{IsConstant}
 
 pub record Boundary : Type 0 where
   -- how its thread logs
@@ -68,10 +73,6 @@ bank_effects b bank x =
 abbrev pub commit_effects : Log → (thread point : ℕ) → List Effect
 commit_effects log thread point = Fences ∷ Stores (point_at log thread) 8 point ∷ Cleans (point_at log thread) ∷ Fences ∷ []
 
--- where recovery resumes, where the boundary's code stands at this address
-abbrev pub resume_address : Boundary → List Instr → (pc : ℕ) → ℕ
-resume_address b code pc = (pc + 4 * length code + twos_complement 64 b.resume) % 2 ^ 64
-
 -- ---- The sides of a log: it has two, each with a bank, of which x3 has one from one boundary to the next. Which one is of no concern above
 
 abbrev pub other_side : (side : ℕ) → ℕ
@@ -94,27 +95,7 @@ pub record IsOnSide (log : Log) (side : ℕ) (x : List ℕ) : Type 0 where
   pub offset : read x bank_offset ≡ bank_bytes log * side
   pub exists : side < 2
 
--- memory sees these stores, cleans and fences, in this order, and nothing else
-pub record HasEffects (b : Boundary) (code : List Instr) : Type 0 where
-  pub does : (x : List ℕ) (pc side : ℕ) → IsOnSide b.log side x → effects code x pc ≡ boundary_effects b side (resume_address b code pc) x
-
--- after a boundary's code x3 has the other side's offset, but the same side's where no bank was written
-pub record HasOffset (log : Log) (locks : List ℕ) (code : List Instr) : Type 0 where
-  pub leaves : (x : List ℕ) (pc side : ℕ) → IsOnSide log side x →
-      read (registers_after code x pc) bank_offset ≡ bank_bytes log * (if is_empty locks then side else other_side side)
-
--- every register but x3 and the temporaries is as it was
-pub record KeepsRegisters (log : Log) (code : List Instr) : Type 0 where
-  pub keeps : (x : List ℕ) (pc side : ℕ) → IsOnSide log side x → (r : ℕ) → is_temporary r ≡ false → r ≢ bank_offset →
-      read (registers_after code x pc) r ≡ read x r
-
--- straight code of the boundary
-pub record IsStraightCodeOf (b : Boundary) (code : List Instr) : Type 0 where
-  pub effects_are : HasEffects b code
-  pub offset : HasOffset b.log b.locks code
-  pub keeps : KeepsRegisters b.log code
-
--- ---- The two parts of a boundary whose bank lists locks: before the locks, and after them
+-- ---- Within a boundary
 
 -- registers y within a boundary that writes this bank of the thread's log, begun with registers x: x31 has the log's address, x3 the bank's offset, and x30 the
 -- sum of both; all others but temporaries are as they were
@@ -126,40 +107,65 @@ pub record IsUnderWay (log : Log) (thread bank : ℕ) (x y : List ℕ) : Type 0 
   pub base : read y 30 ≡ log_of log thread + bank_bytes log * bank
   pub others : (r : ℕ) → is_temporary r ≡ false → r ≢ 3 → read y r ≡ read x r
 
--- code that begins one: slot 0 of the other side's bank gets how many locks there are
-pub record Opens (log : Log) (thread count : ℕ) (code : List Instr) : Type 0 where
-  pub does : (x : List ℕ) (pc side : ℕ) → IsOnSide log side x → effects code x pc ≡ Stores (slot_at log thread (other_side side) 0) 8 count ∷ []
-  pub leaves : (x : List ℕ) (pc side : ℕ) → IsOnSide log side x → IsUnderWay log thread (other_side side) x (registers_after code x pc)
+-- ---- The instructions of a boundary. x31 has the address of the log, x3 the offset of the bank that is written, and x30 the sum of both
 
--- what is left to do after the locks: the bank gets the live registers, its lines in use are cleaned, and the point names it
-abbrev pub closing_effects : Boundary → (bank resume : ℕ) → (registers : List ℕ) → List Effect
-closing_effects b bank resume x =
-    map (λ r. Stores (slot_at b.log b.thread bank (register_slot b.log r)) 8 (read x r)) b.live ++
-    map (λ line. Cleans (slot_at b.log b.thread bank (8 * line))) (lines_in_use b.log (slots_kept b.log b.locks b.live)) ++
-    commit_effects b.log b.thread ((resume + bank) % 2 ^ 64)
+-- what slot 0 gets of the locks: their mask, or how many there are
+abbrev pub first_kept : Keeping → (locks : List ℕ) → ℕ
+first_kept Masked locks = mask_with locks
+first_kept Listed locks = length locks
 
--- code that ends the boundary
-pub record Closes (b : Boundary) (code : List Instr) : Type 0 where
-  pub does : (x y : List ℕ) (pc side : ℕ) → IsUnderWay b.log b.thread (other_side side) x y →
-      effects code y pc ≡ closing_effects b (other_side side) (resume_address b code pc) x
-  pub offset : (x y : List ℕ) (pc side : ℕ) → IsUnderWay b.log b.thread (other_side side) x y →
-      read (registers_after code y pc) bank_offset ≡ bank_bytes b.log * other_side side
-  pub others : (x y : List ℕ) (pc side : ℕ) → IsUnderWay b.log b.thread (other_side side) x y → (r : ℕ) → is_temporary r ≡ false → r ≢ bank_offset →
-      read (registers_after code y pc) r ≡ read x r
+-- the locks that have slots of their own
+abbrev pub listed_locks : Keeping → (locks : List ℕ) → List ℕ
+listed_locks Masked locks = []
+listed_locks Listed locks = locks
 
--- each lock's number gets its slot in the list, the first of them that of this index
+-- each of them gets its slot, the first of them that of this index: code leaves its number in x5, and that is stored
 abbrev pub keep_locks : Log → (index : ℕ) → (codes : List (List Instr)) → List Instr
 keep_locks log index [] = []
 keep_locks log index (code ∷ codes) = code ++ Store Sd 5 30 (64 + 8 * lock_slot log index) ∷ keep_locks log (index + 1) codes
 
--- between the two parts stands for each lock the code that leaves its number in x5, and a store into its slot
-pub record IsListCode (log : Log) (thread : ℕ) (live : List ℕ) (resume : ℤ) (codes : List (List Instr)) (code : List Instr) : Type 0 where
-  pub opening : List Instr
-  pub closing : List Instr
-  pub split : code ≡ opening ++ (keep_locks log 0 codes ++ closing)
-  pub opens : Opens log thread (length codes) opening
-  pub closes : (numbers : List ℕ) → length numbers ≡ length codes →
-      Closes (record { log = log; thread = thread; locks = numbers; live = live; resume = resume }) closing
+-- each live register gets its slot
+abbrev pub keep_slots : Log → (live : List ℕ) → List Instr
+keep_slots log [] = []
+keep_slots log (r ∷ rs) = Store Sd r 30 (64 + 8 * register_slot log r) ∷ keep_slots log rs
+
+abbrev pub clean_lines : (lines : List ℕ) → List Instr
+clean_lines [] = []
+clean_lines (line ∷ lines) = OpImmediate Addi 7 30 (64 + 64 * line) ∷ CboClean 7 ∷ clean_lines lines
+
+-- x30 gets the address where recovery resumes, and the number of the bank. That address lies so many bytes after the boundary's end, in two's complement of 32
+-- bits
+abbrev pub point : Log → (resume : ℕ) → List Instr
+point log resume =
+    Auipc 30 ((resume + 28 + 2048) % 2 ^ 32 / 4096) ∷ OpImmediate Addi 30 30 ((resume + 28) % 4096) ∷ ShiftImmediate Srli 7 3 (distance_bits (size_of log)) ∷
+    Op Add 30 30 7 ∷ []
+
+-- the point gets a register's number, and is durable
+abbrev pub commit : (register : ℕ) → List Instr
+commit register = Store Sd register 31 0 ∷ CboClean 31 ∷ Fence ∷ []
+
+-- all of them, where `address` leave the log's address in x31, and `first` in x7 what slot 0 gets: the other bank gets the locks and the live registers, its
+-- lines that have such slots are cleaned, and after a FENCE the point names it. Where no lock is held no bank is written, and the point gets 0
+abbrev pub boundary_list : Boundary → (address first : List Instr) → (codes : List (List Instr)) → List Instr
+boundary_list b address first codes =
+    if is_empty b.locks then address ++ Fence ∷ commit 0
+    else OpImmediate Xori 3 3 (bank_bytes b.log) ∷ address ++ Op Add 30 31 3 ∷ first ++ Store Sd 7 30 64 ∷ keep_locks b.log 0 codes ++ keep_slots b.log b.live
+    ++ clean_lines (lines_in_use b.log (slots_kept b.log b.locks b.live)) ++ Fence ∷ point b.log (twos_complement 32 b.resume) ++ commit 30
+
+-- the code of a boundary, where these are the codes of the numbers of the locks that have slots of their own
+pub record IsBoundaryCode (b : Boundary) (codes : List (List Instr)) (code : List Instr) : Type 0 where
+  pub address : List Instr
+  pub first : List Instr
+  pub is : code ≡ boundary_list b address first codes
+  pub is_log : IsConstant 31 (log_of b.log b.thread) address
+  pub is_first : is_empty b.locks ≡ false → IsConstant 7 (first_kept (keeping_of b.log) b.locks) first
+  pub many : length codes ≡ length (listed_locks (keeping_of b.log) b.locks)
+  -- there is room for all of it
+  pub few : length codes ≤ MOST_LISTED
+  pub thread_is : b.thread < MOST_THREADS
+  pub live_are : list_all is_kept b.live ≡ true
+  pub low : negsuc 262143 ≤ℤ b.resume
+  pub high : b.resume ≤ℤ pos 262144
 
 -- the instructions in each of the lists
 abbrev pub lists_of : List (Vec Instr Global) → List (List Instr)

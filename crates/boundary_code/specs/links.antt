@@ -1,1 +1,2 @@
+pub mod BoundaryParts
 pub mod InstructionLists

@@ -1,5 +1,5 @@
 //! A boundary: the bank that the point doesn't name gets what is live, and then the point names it.
-ghost use Rattle.std.specs.Prelude.{◌≡◌, ◌≢◌, ◌<◌, ◌≤◌, ◌+◌, ◌*◌, ◌++◌, ◌∷◌, ◌==◌, ◌/◌};
+ghost use Rattle.std.specs.Prelude.{◌≡◌, ℕ, List, ◌<◌, ◌≤◌, ◌+◌, ◌*◌, ◌++◌, ◌∷◌, ◌==◌, ◌/◌};
 ghost use Rattle.std.specs.Prelude.{[], map, length, pos, negsuc, ◌≤ℤ◌, IsTrue, IfOk, OnOk};
 ghost use Rattle.std.specs.List.{list_all, list_any};
 ghost use Rattle.ido_base.specs.Locks.{locks_in};
@@ -8,11 +8,10 @@ ghost use Rattle.log_schemes.specs.Schemes.{keeping_of, lock_slot, numbers_from,
 ghost use Rattle.ido_base.specs.declared.limits.TheConstants.{MOST_THREADS};
 ghost use Rattle.rv64_isa.specs.Signed.{twos_complement};
 ghost use Rattle.memory_layout.specs.Roles.{is_kept};
-ghost use Rattle.boundary_code.specs.Boundaries.{IsStraightCodeOf, fixed_words, lines_in_use};
-ghost use Rattle.boundary_code.specs.Boundaries.{keep_locks, IsListCode, lists_of, number_words};
-ghost use Rattle.boundary_code.specs.links.InstructionLists.{keep_slots, clean_lines, clean_where};
-ghost use Rattle.boundary_code.specs.links.InstructionLists.{point, commit, boundary_list};
-ghost use Rattle.boundary_code.specs.links.InstructionLists.{last_list};
+ghost use Rattle.boundary_code.specs.Boundaries.{IsBoundaryCode, fixed_words, lines_in_use};
+ghost use Rattle.boundary_code.specs.Boundaries.{keep_locks, keep_slots, clean_lines, lists_of, number_words};
+ghost use Rattle.boundary_code.specs.Boundaries.{point, commit};
+ghost use Rattle.boundary_code.specs.links.InstructionLists.{bank_list, clean_where, last_list};
 
 use ido_base::memory::OutOfMemory;
 use log_schemes::addresses::{FIRST_BANK, LINE_SLOTS, LOCKS_SLOT, SLOT_BYTES, log_of};
@@ -195,8 +194,8 @@ fn emit_boundary(
 ) -> Result<Vec<Instr>, OutOfMemory>
     requires low { negsuc 262143 ≤ℤ resume }
     requires high { resume ≤ℤ pos 262144 }
-    ensures { IfOk result (λ code. code.items ≡ boundary_list log address.now
-        (record { first = first.now; others = others.now; slots = slots.now }) live.now (twos_complement 32 resume)) }
+    ensures { IfOk result (λ code.
+        code.items ≡ bank_list log address.now first.now others.now slots.now live.now (twos_complement 32 resume)) }
 {
     let flip = immediate(
         ImmediateOperation::Xori,
@@ -248,7 +247,7 @@ pub fn boundary(
     requires high { resume ≤ℤ pos 262144 }
     ensures short { IfOk result (λ code. length code.items ≤ length live.now + fixed_words log) }
     ensures code { IfOk result (λ code.
-        IsStraightCodeOf (record { log = log; thread = thread; locks = locks_in mask; live = live.now; resume = resume }) code.items) }
+        IsBoundaryCode (record { log = log; thread = thread; locks = locks_in mask; live = live.now; resume = resume }) [] code.items) }
 {
     let address = constant(alloc, LOG, log_of(log, thread))?;
     if mask == 0 {
@@ -279,9 +278,8 @@ pub fn boundary_list(
     requires low { negsuc 262143 ≤ℤ resume }
     requires high { resume ≤ℤ pos 262144 }
     ensures short { IfOk result (λ code. length code.items ≤ length live.now + fixed_words log + number_words (lists_of locks.now)) }
-    ensures last { length locks.now ≡ 0 → IfOk result (λ code.
-        IsStraightCodeOf (record { log = log; thread = thread; locks = []; live = live.now; resume = resume }) code.items) }
-    ensures parts { length locks.now ≢ 0 → IfOk result (λ code. IsListCode log thread live.now resume (lists_of locks.now) code.items) }
+    ensures code { IfOk result (λ code. (numbers : List ℕ) → length numbers ≡ length locks.now →
+        IsBoundaryCode (record { log = log; thread = thread; locks = numbers; live = live.now; resume = resume }) (lists_of locks.now) code.items) }
 {
     let address = constant(alloc, LOG, log_of(log, thread))?;
     if locks.is_empty() {

@@ -2,5 +2,6 @@
 #![tactic(auto)]
 
 mod code;
+pub mod laws;
 
 pub use code::{boundary, boundary_list};

@@ -68,7 +68,7 @@ module _ {y : System} {s : IsSystem y} {w : World} {h : ℕ} (site : AtNode y s 
 
   -- ---- The store
 
-  formed : IsStoreInRange (flat_of y).variables store
+  pub formed : IsStoreInRange (flat_of y).variables store
   formed = store_is y.plan code s.plan (now_of y b) (now_good y s b) graph_thread t.walks store pending
 
   open formed.it use {kind as k}
@@ -76,10 +76,10 @@ module _ {y : System} {s : IsSystem y} {w : World} {h : ℕ} (site : AtNode y s 
   abbrev address : ℕ
   address = variable_at (shapes_of y) store.variable store.element
 
-  kind_is : kind_at (flat_of y).variables store.variable ≡ Some k
+  pub kind_is : kind_at (flat_of y).variables store.variable ≡ Some k
   kind_is = slice_get-map (λ (x : Variable). x.kind) (flat_of y).variables store.variable ∙ ap (option_map (λ (x : Variable). x.kind)) formed.found
 
-  in_variables : address < variables_end
+  pub in_variables : address < variables_end
   in_variables = element_below (flat_of y).variables (room y s) store.variable store.element formed.it formed.found formed.element
 
   may_do : MayDo y.plan code.thread places w.log (length w.harts) here e

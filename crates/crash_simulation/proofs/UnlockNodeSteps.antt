@@ -147,7 +147,7 @@ module _ {y : System} {s : IsSystem y} {w : World} {h : ℕ} (site : AtNode y s 
         (record { own = site.core.core.own; is = node; at = at_plan site doing; lock = name; unlocks = action; number = refl });
   })
 
-  log_first : LogInv n c.new new_record w effects_all
+  pub log_first : LogInv n c.new new_record w effects_all
   log_first =
       log_begins site.hart graph_thread.locals next_node site.core.side resume site.core.registers site.core.goes.goes.rest site.core.core.enters.at_side
       site.core.at_side begins.recoverable

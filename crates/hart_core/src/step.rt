@@ -4,6 +4,8 @@ ghost use Rattle.line_memory.specs.declared.memory.LineMemory.{LineMemory};
 ghost use Rattle.line_memory.specs.links.MemoryRepresentation.{threads_of, logs_of, stores_of};
 ghost use Rattle.machine_model.specs.declared.phase.Phase.{Phase};
 ghost use Rattle.machine_model.specs.declared.phase.Phase.TheVariants.{Ended};
+ghost use Rattle.rv64_isa.specs.declared.object.Slot.{Slot};
+ghost use Rattle.rv64_isa.specs.Programs.{fetched};
 ghost use Rattle.rv64_isa.specs.Rows.{Effect as Meaning, Continues, written};
 ghost use Rattle.machine_model.specs.Machine.{applied, hart_step};
 ghost use Rattle.hart_core.specs.Effects.{effect_in};
@@ -98,12 +100,41 @@ pub fn would_wait(number: u32, program: &Program, hart: &Hart, locks: &LockTable
     }
 }
 
-/// A step of the hart of this number, which executes instructions: an instruction, or one write-back of the
+/// A step of the hart of this number, which executes instructions and has this at its pc: an instruction, or one write-back of the
 /// oldest entry of its queue where a clean meets a full queue or a fence one that isn't empty. A hart that
 /// waits or is stuck changes nothing.
 ///
 /// It speaks of every world that hart, memory and holders represent. The phase stays, or becomes `Ended`; recovery's phases aren't
 /// stepped here.
+#[inline(always)]
+pub fn execute(
+    number: u32,
+    next: Option<Slot>,
+    phase: &mut Phase,
+    hart: &mut Hart,
+    memory: &mut LineMemory,
+    locks: &mut LockTable,
+) -> Reply
+    requires { stores_of memory.old < 2 ^ 63 }
+    ensures step { (program : List (List Slot)) → next ≡ fetched program number hart.old.pc → IsStep (λ w model. hart_step program w number model) number
+        (record { phase = phase.old; hart = hart.old; memory = memory.old; locks = locks.old })
+        (record { phase = phase.new; hart = hart.new; memory = memory.new; locks = locks.new }) result }
+    ensures phase { (phase.new ≡ phase.old) ⊎ (phase.new ≡ Ended) }
+    ensures logs { logs_of memory.new ≡ logs_of memory.old }
+    ensures stores { stores_of memory.new ≤ stores_of memory.old + 1 }
+    ensures locks { length locks.new ≡ length locks.old }
+{
+    match next {
+        None => Reply::Stuck(Cause::NoCode { pc: hart.pc }),
+        Some(Slot::NoRow(word)) => Reply::Stuck(Cause::Illegal { word }),
+        Some(Slot::Row(instr)) => {
+            let effect = rows::effect(instr, &hart.registers, hart.pc);
+            apply(number, effect, phase, hart, memory, locks)
+        }
+    }
+}
+
+/// The step by what stands at the hart's pc in its program: what `execute` does for it.
 #[inline(always)]
 pub fn step(
     number: u32,
@@ -124,12 +155,6 @@ pub fn step(
     ensures stores { stores_of memory.new ≤ stores_of memory.old + 1 }
     ensures locks { length locks.new ≡ length locks.old }
 {
-    match program.fetch(number, hart.pc) {
-        None => Reply::Stuck(Cause::NoCode { pc: hart.pc }),
-        Some(Slot::NoRow(word)) => Reply::Stuck(Cause::Illegal { word }),
-        Some(Slot::Row(instr)) => {
-            let effect = rows::effect(instr, &hart.registers, hart.pc);
-            apply(number, effect, phase, hart, memory, locks)
-        }
-    }
+    let next = program.fetch(number, hart.pc);
+    execute(number, next, phase, hart, memory, locks)
 }

@@ -28,6 +28,8 @@ mod Sums
 mod Totals
 mod Summaries
 mod ThreadedAnswers
+mod GeneratedPrograms
+mod LoadedRuns
 mod CompiledLimits
 mod CompiledImages
 mod RecoveredRuns

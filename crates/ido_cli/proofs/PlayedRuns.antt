@@ -63,7 +63,7 @@ sound_along program w (e ∷ es) count sound =
     let all = sound_along program (after_event program w e) es (count ∙ sym next.1) next.0 in
     (all.0, all.1 ∙ next.1)
 
-harts_count : (log : Log) (program : List (List Slot)) (locks : ℕ) (initial : List ℕ) (es : List Event) →
+pub harts_count : (log : Log) (program : List (List Slot)) (locks : ℕ) (initial : List ℕ) (es : List Event) →
     length (after_events program (start_of log program locks initial) es).harts ≡ length program
 harts_count log program locks initial es =
     let starts = starts_simulate log program locks initial in

@@ -28,7 +28,7 @@ use Rattle.run_scripts.specs.Reports.{line}
 use Rattle.run_scripts.specs.links.Evictors.{evictions_of}
 use Rattle.run_tracker.specs.ObjectLives.{Course, LifeConfig, new_life, opening_of, steps_in, world_of}
 use Rattle.ido_cli.specs.declared.live.Run.{Run}
-use Rattle.ido_cli.specs.Answers.{LiveAnswer, LoadAnswer, unloaded, unrun}
+use Rattle.ido_cli.specs.Answers.{LiveAnswer, unrun}
 use Rattle.ido_cli.specs.Loads.{IsSummary}
 use Rattle.ido_cli.specs.Plays.{beginning}
 use Rattle.ido_cli.specs.Reports.{machine_state}
@@ -149,11 +149,6 @@ module _ (flat : f.Flat) (object : Object) (marks : Marks) (cuts : Cuts) (begun 
           (subst (λ (s : Steps). IsSummary (machine_state flat (world loaded_by life.journal) (schedules s)) status output) steps_are
           (subst (λ (w : World). IsSummary (machine_state flat w (schedules (steps_in life))) status output) world_is told));
     }
-
-pub load_refused : (rounds seed : ℕ) (found : CompileError) → IsCompileAnswer (generated_source rounds seed) (Err found) → (status : ℕ) (output : List ℕ) →
-    TellsRefusal found (generated_source rounds seed) status output → LoadAnswer rounds seed status output
-load_refused rounds seed (error.Refused x) refused status output told = unloaded x.rule x.place refused told
-load_refused rounds seed error.Memory refused status output none = absurd none
 
 -- ---- How long a generated source is
 

@@ -30,7 +30,7 @@ use Rattle.ido_cli.specs.Answers.{UpgradeAnswer, not_older, of_older}
 use Rattle.ido_cli.specs.Upgrades.{IsUpgradeSaid, renewed, too_long, unfinished}
 use Rattle.ido_compile.specs.CompileAnswers.{translation_in}
 use Rattle.ido_cli.specs.Sweeps.{status_of, swept, faulty as unswept_script}
-use Rattle.ido_cli.specs.Answers.{LiveAnswer, unrun, ran as ran_on_threads, LoadAnswer, unloaded, loaded}
+use Rattle.ido_cli.specs.Answers.{LiveAnswer, unrun, ran as ran_on_threads, LoadAnswer}
 use Rattle.ido_cli.specs.Answers.{IsPastLimits, AnswerToInput, past_limits, within_limits, Refuses, wrong_words, taken_words}
 use Rattle.ido_cli.specs.Answers.{IsAnswer, IsAnswered, Outside, answered, no_memory, sink_failed, source_failed}
 use Rattle.ido_cli.specs.Deliveries.{IsSaidToInput, IsSaidTo, IsTaken, to_wrong_words, to_command, IsDelivered, whole, broken}
@@ -205,8 +205,7 @@ of_live turns crashes evict true source status output (ran_on_threads flat is c 
     not_four_or_seven status 0 told.0 (inl (omega arith)) h
 
 of_load : (rounds seed status : ℕ) (output : List ℕ) → LoadAnswer rounds seed status output → (status ≡ 4) ⊎ (status ≡ 7) → ⊥
-of_load rounds seed status output (unloaded found place is refused) h = not_four_or_seven status 1 refused.0 (inl (omega arith)) h
-of_load rounds seed status output (loaded flat is c made events run summary) h = by_unsettled _ status summary.summed.status_is h
+of_load rounds seed status output answer h = by_unsettled _ status answer.summary.summed.status_is h
 
 of_list : (input : List ℕ) (status : ℕ) (output : List ℕ) → ListAnswer input status output → (status ≡ 4) ⊎ (status ≡ 7) → ⊥
 of_list input status output (no_object fault read e told) h = not_four_or_seven status 6 e (inr refl) h

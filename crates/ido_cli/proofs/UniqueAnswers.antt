@@ -30,7 +30,7 @@ use Rattle.ido_cli.specs.Answers.{CommandAnswer, CompileAnswer, uncompiled, comp
 use Rattle.ido_cli.specs.Answers.{ScriptedAnswer, unplayed, no_script, of_script, ImageAnswer, RecoverAnswer, no_image, of_image}
 use Rattle.ido_cli.specs.Answers.{OrderAnswer, unlocked, unordered, ordered}
 use Rattle.lock_order.specs.LockOrder.{OrderFault, order_fault}
-use Rattle.ido_cli.specs.Answers.{SeededAnswer, undrawn, drawn, LiveAnswer, unrun, ran as ran_on_threads, LoadAnswer, unloaded, loaded}
+use Rattle.ido_cli.specs.Answers.{SeededAnswer, undrawn, drawn, LiveAnswer, unrun, ran as ran_on_threads, LoadAnswer}
 use Rattle.ido_cli.specs.Answers.{SweepAnswer, no_points, of_points, unswept, UpgradeAnswer, not_older, of_older}
 use Rattle.ido_cli.specs.Upgrades.{IsUpgradeSaid, renewed, too_long, unfinished}
 use Rattle.ido_compile.specs.CompileAnswers.{translation_in}
@@ -187,8 +187,7 @@ module _ (one_flat : OneFlat) (one_fault : OneFault) (not_both : NotBoth) (one_s
       let zero = told.0 in keeps flat is (λ one. omega (arith, zero, one))
 
   of_load : (rounds seed status : ℕ) (output : List ℕ) → LoadAnswer rounds seed status output → Verdict (generated_source rounds seed) status output
-  of_load rounds seed status output (unloaded found place is told) = breaks found place is told
-  of_load rounds seed status output (loaded flat is c made events run summary) = keeps flat is (not_by_unsettled _ status summary.summed.status_is)
+  of_load rounds seed status output answer = keeps answer.flat answer.accepted (not_by_unsettled _ status answer.summary.summed.status_is)
 
   module _ (Says : Translation → List Event → ℕ → List ℕ → Type 0)
       (others : (c : Translation) (events : List Event) (status : ℕ) (output : List ℕ) → Says c events status output → status ≡ 1 → ⊥) where

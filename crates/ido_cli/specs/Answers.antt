@@ -1,5 +1,5 @@
 -- What the program answers: a status and the bytes that it writes.
-use Rattle.std.specs.Prelude.{◌≡◌, ◌⊎◌, ℕ, ◌+◌, ◌-◌, ◌<◌, List, [], ◌++◌, length, Option, Some, None, Ok, Err, codes, IfSome, Bool, true, false}
+use Rattle.std.specs.Prelude.{◌≡◌, ◌⊎◌, ℕ, ◌+◌, ◌-◌, ◌<◌, ◌≤◌, List, [], ◌++◌, length, Option, Some, None, Ok, Err, codes, IfSome, Bool, true, false}
 use Rattle.machine_events.specs.declared.event.Event.{Event}
 use Rattle.ido_base.specs.declared.place.Place.{Place}
 use Rattle.ido_base.specs.declared.limits.TheConstants.{MOST_INPUT_BYTES, MOST_SOURCE_BYTES}
@@ -42,7 +42,7 @@ use Rattle.ido_cli.specs.Refusals.{object_fault_code, object_fault_place, script
 use Rattle.ido_cli.specs.Regions.{IsListing}
 use Rattle.ido_cli.specs.Runs.{RunAnswer}
 use Rattle.ido_cli.specs.Sweeps.{SweptScript}
-use Rattle.ido_cli.specs.ThreadedRuns.{AreLegs, IsLoadedRun, evictions_by}
+use Rattle.ido_cli.specs.ThreadedRuns.{AreLegs, IsLoadedRun, evictions_by, most_leg_events}
 use Rattle.ido_cli.specs.Upgrades.{IsOlderFault, IsOlderImage, IsUpgrade}
 use Rattle.run_tracker.specs.links.EarlierLives.{lives_in}
 
@@ -180,12 +180,19 @@ pub data LiveAnswer (turns : ℕ) (crashes : List ℕ) (evict : Option ℕ) (jou
       AreLegs (beginning c) turns (evictions_by c evict) crashes [] events → IsTold journal source c events status output →
       LiveAnswer turns crashes evict journal source status output
 
--- what is answered of the source that two numbers give, and of a run of it on threads
-pub data LoadAnswer (rounds seed : ℕ) (status : ℕ) (output : List ℕ) : Type 0 where
-  unloaded : (found : r.Rule) (place : Place) → IsRefusedAs command_log (generated_source rounds seed) found place →
-      IsRefusedAt 1 (code_of found) (generated_source rounds seed) place.0 status output → LoadAnswer rounds seed status output
-  loaded : (flat : f.Flat) → IsAcceptedAs command_log (generated_source rounds seed) flat → (c : Translation) → IsTranslationOf flat c → (events : List Event) →
-      IsLoadedRun (beginning c) events → IsSummaryOf c events status output → LoadAnswer rounds seed status output
+-- What is answered of the source that two numbers give, and of a run of it on threads. The source breaks no rule, so there is no status 1. Its threads take
+-- locks in their order, so some hart can step until all have stopped (`laws::ordered_lives_go_on`). Where some hart isn't settled in the end, there are as many
+-- events as there may be.
+pub record LoadAnswer (rounds seed : ℕ) (status : ℕ) (output : List ℕ) : Type 0 where
+  pub flat : f.Flat
+  pub accepted : IsAcceptedAs command_log (generated_source rounds seed) flat
+  pub in_order : order_fault flat ≡ None
+  pub translation : Translation
+  pub translated : IsTranslationOf flat translation
+  pub events : List Event
+  pub run : IsLoadedRun (beginning translation) events
+  pub summary : IsSummaryOf translation events status output
+  pub ends : (status ≡ 0) ⊎ (most_leg_events ≤ length events)
 
 -- ---- `recover`
 

@@ -1,11 +1,13 @@
 //! The command `load`: a generated source, run on threads to its end.
-ghost use Rattle.std.specs.Prelude.{◌≡◌, ◌+◌, ◌-◌, ◌<◌, ◌≤◌, [], true, false, ◌^◌, ◌+ℤ◌, ◌≤ℤ◌, neg_ℤ, pos, FitsSigned, All, length, sum, IfOk};
+ghost use Rattle.std.specs.Prelude.{◌≡◌, ◌+◌, ◌-◌, ◌<◌, ◌≤◌, [], true, false, ◌^◌, ◌+ℤ◌, ◌≤ℤ◌, neg_ℤ, pos, FitsSigned, All, length, sum, IfOk, None};
 ghost use Rattle.std.specs.Int.{w128};
 ghost use Rattle.ido_base.specs.declared.limits.TheConstants.{MOST_THREADS, MOST_VARIABLE_BYTES};
 ghost use Rattle.c_tree.specs.Flats.{flat_of};
 ghost use Rattle.flat_compile.specs.TranslatedForms.{IsTranslated};
 ghost use Rattle.compiler_correctness.specs.Compilations.{IsCompilation};
-ghost use Rattle.ido_compile.specs.CompileAnswers.{translation_in};
+ghost use Rattle.ido_compile.specs.CompileAnswers.{IsCompiled, translation_in};
+ghost use Rattle.lock_order.specs.LockOrder.{order_fault};
+ghost use Rattle.run_scripts.specs.GeneratedSources.{generated_source};
 ghost use Rattle.run_scripts.specs.links.ReportViews as views;
 ghost use Rattle.run_tracker.specs.ObjectLives.{opening_of};
 ghost use Rattle.ido_cli.specs.Answers.{LoadAnswer};
@@ -14,14 +16,16 @@ ghost use Rattle.ido_cli.specs.ThreadedRuns.{AreRounds, most_leg_events};
 ghost use Rattle.ido_cli.specs.links.LegRuns.{HasRounds, IsLoad, IsSmall, IsSummable, LeadsTo};
 
 use crate::live::MOST_LEG_EVENTS;
-use crate::refusal::source_refused;
 use crate::report::reported;
 use crate::said::Said;
 use crate::scheme::COMMAND_LOG;
 use c_tree::flat::Flat;
+use deadlock_freedom::laws::stops_are_settled;
+use generated_programs::laws::generated_are_ordered;
 use hart_driver::drive::drive;
 use ido_base::memory::OutOfMemory;
-use ido_compile::{Compiled, compile};
+use ido_compile::laws::one_verdict;
+use ido_compile::{CompileError, Compiled, compile};
 use ido_outside::Gate;
 use machine_events::event::Event;
 use run_scripts::evictor::Evictor;
@@ -157,6 +161,21 @@ fn loaded<R: Threads + Wait + Sync, G: Gate + Sync>(
     say_summed(alloc, &state)
 }
 
+/// The source that two numbers give, compiled: it breaks no rule, and its threads take locks in their order.
+fn compile_generated(alloc: Global, count: u32, seed: u32) -> Result<Compiled, OutOfMemory>
+    ensures compiled { IfOk result (λ compiled. IsCompiled (generated_source count seed) compiled) }
+    ensures in_order { IfOk result (λ compiled. order_fault (flat_of compiled.flat) ≡ None) }
+{
+    generated_are_ordered();
+    one_verdict();
+    let source = make_program(alloc, count, seed)?;
+    match compile(alloc, COMMAND_LOG, &source) {
+        Ok(compiled) => Ok(compiled),
+        Err(CompileError::Refused(_)) => unreachable!(),
+        Err(CompileError::Memory) => Err(OutOfMemory),
+    }
+}
+
 /// The answer of `load`: the sums of a run of the source that two numbers give.
 pub fn load_answer<R: Threads + Wait + Sync, G: Gate + Sync>(
     rt: &R,
@@ -167,9 +186,7 @@ pub fn load_answer<R: Threads + Wait + Sync, G: Gate + Sync>(
 ) -> Result<Said, OutOfMemory>
     ensures { IfOk result (λ said. LoadAnswer count seed said.status said.output.items) }
 {
-    let source = make_program(alloc, count, seed)?;
-    match compile(alloc, COMMAND_LOG, &source) {
-        Ok(compiled) => loaded(rt, alloc, &compiled, gate),
-        Err(error) => source_refused(alloc, &source, error),
-    }
+    stops_are_settled();
+    let compiled = compile_generated(alloc, count, seed)?;
+    loaded(rt, alloc, &compiled, gate)
 }

@@ -4,3 +4,5 @@ mod Starts
 mod BegunAnew
 mod MachineEvents
 mod LocalStates
+mod SignTables
+mod LocalRuns

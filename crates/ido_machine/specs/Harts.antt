@@ -3,13 +3,10 @@ use Rattle.std.specs.Prelude.{◌≡◌, ℕ, List, [], length, slice_get, Some,
 use Rattle.ido_base.specs.Words.{Word}
 use Rattle.line_memory.specs.links.Queues.{RepresentsQueue}
 use Rattle.rv64_isa.specs.declared.object.Slot.{Slot}
-use Rattle.machine_model.specs.declared.phase.Phase.TheVariants.{Run}
 use Rattle.rv64_isa.specs.Programs.{code_start}
 use Rattle.machine_model.specs.Machine.{Hart as HartModel}
 use Rattle.hart_core.specs.declared.hart.Hart.{Hart}
 use Rattle.hart_core.specs.declared.local.LocalState.{LocalState}
-use Rattle.hart_core.specs.declared.local.LocalWrite.{LocalWrite}
-use Rattle.hart_core.specs.LocalSteps.{after_write, local_step, placed_code}
 use Rattle.hart_core.specs.links.Harts.{RepresentsHart}
 
 -- as many harts, and each represents the one of its number
@@ -46,8 +43,3 @@ local_state_of model = record { registers = model.registers; pc = model.pc }
 
 abbrev pub with_local_state : HartModel → LocalState → HartModel
 with_local_state model s = record model { registers = s.registers; pc = s.pc }
-
--- hart h executes instructions, and the next one is local and writes this
-pub record GoesLocally (program : List (List Slot)) (h : ℕ) (model : HartModel) (write : LocalWrite) : Type 0 where
-  pub running : model.phase ≡ Run
-  pub local : local_step (placed_code program h) (local_state_of model) ≡ Some (after_write write model.registers)

@@ -1,2 +1,3 @@
 pub mod Harts
 pub mod Machines
+pub mod links

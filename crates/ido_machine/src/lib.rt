@@ -5,3 +5,4 @@
 mod harts;
 pub mod machine;
 mod running;
+pub mod signs;

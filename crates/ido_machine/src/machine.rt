@@ -4,8 +4,9 @@ ghost use Rattle.line_memory.specs.links.MemoryRepresentation.{threads_of, store
 
 use crate::harts;
 use crate::running::{is_idle, step_one};
+use crate::signs::{Ran, SignTable};
 use hart_core::hart::Hart;
-use hart_core::local::{self, LocalState, LocalWrite};
+use hart_core::local::LocalState;
 use hart_core::program::Program;
 use ido_base::memory::OutOfMemory;
 use line_memory::memory::LineMemory;
@@ -14,7 +15,7 @@ use log_schemes::log::Log;
 use machine_events::event::{Event, Reply};
 use machine_model::object::Object;
 use machine_model::phase::Phase;
-use rv64_isa::instr::Instr;
+use rv64_isa::object::Slot;
 use std::alloc::Global;
 
 /// A machine that runs an object, one event at a time.
@@ -51,7 +52,8 @@ impl Machine {
     ghost use Rattle.hart_core.specs.LocalSteps.{local_step, placed_code, after_write};
     ghost use Rattle.hart_core.specs.Objects.{IsWithinLimits};
     ghost use Rattle.ido_machine.specs.Machines.{program_in, log_by, events_of, RepresentsMachine, IsAfter};
-    ghost use Rattle.ido_machine.specs.Harts.{local_state_of, with_local_state, GoesLocally};
+    ghost use Rattle.ido_machine.specs.Harts.{local_state_of, with_local_state};
+    ghost use Rattle.ido_machine.specs.links.LocalRuns.{HasRunOn};
 
     /// The machine of an object at its start.
     pub fn start(alloc: Global, object: &Object) -> Result<Machine, OutOfMemory>
@@ -155,9 +157,26 @@ impl Machine {
         ensures log { log_by self.new ≡ log_by self.old }
         ensures events { events_of self.new ≡ events_of self.old + 1 }
     {
+        let pc = self.harts[hart as usize].pc;
+        let next = self.program.fetch(hart, pc);
+        self.execute(hart, next)
+    }
+
+    /// A step of a hart that has this at its pc: what `step` does for it.
+    #[inline(always)]
+    pub fn execute(&mut self, hart: u32, next: Option<Slot>) -> Reply
+        requires exists { hart < length (program_in self.old) }
+        requires room { events_of self.old < 2 ^ 63 }
+        ensures world { (w : World) → RepresentsMachine self.old w →
+            ((model : HartModel) → slice_get w.harts hart ≡ Some model → next ≡ fetched (program_in self.old) hart model.pc) →
+            IsAfter self.new result (happens (program_in self.old) w (Step hart)) }
+        ensures program { program_in self.new ≡ program_in self.old }
+        ensures log { log_by self.new ≡ log_by self.old }
+        ensures events { events_of self.new ≡ events_of self.old + 1 }
+    {
         let reply = step_one(
             hart,
-            &self.program,
+            next,
             self.recovering,
             &mut self.phases,
             &mut self.harts,
@@ -269,36 +288,28 @@ impl Machine {
         self.events += u64::from(steps);
     }
 
-    /// What the next step of a hart writes by this instruction, which is the hart's next: where the hart executes instructions, and this
-    /// one touches nothing but registers and pc.
+    /// Executes instructions of a hart by the table of its code, as long as it executes instructions and these touch nothing but its
+    /// registers and its pc, at most so many.
     #[inline(always)]
-    pub fn local_write(&self, hart: u32, instr: Instr) -> Option<LocalWrite>
-        requires { hart < length (program_in self.now) }
-        ensures some { IfSome result (λ write. (w : World) (model : HartModel) → RepresentsMachine self.now w → slice_get w.harts hart ≡ Some model →
-            fetched (program_in self.now) hart model.pc ≡ Some (Row instr) → GoesLocally (program_in self.now) hart model write) }
-        ensures none { IfNone result ((w : World) (model : HartModel) → RepresentsMachine self.now w → slice_get w.harts hart ≡ Some model →
-            fetched (program_in self.now) hart model.pc ≡ Some (Row instr) → model.phase ≡ Run →
-            local_step (placed_code (program_in self.now) hart) (local_state_of model) ≡ None) }
-    {
-        match self.phases[hart as usize] {
-            Phase::Run => local::local_write(instr, &self.harts[hart as usize]),
-            _ => None,
-        }
-    }
-
-    /// A hart makes a step that writes this and touches nothing else.
-    #[inline(always)]
-    pub fn step_locally(&mut self, hart: u32, write: LocalWrite)
+    pub fn run_locally(&mut self, hart: u32, table: &SignTable, most: u32) -> Ran
         requires exists { hart < length (program_in self.old) }
-        requires room { events_of self.old < 2 ^ 63 }
+        requires room { events_of self.old + most < 2 ^ 64 }
         ensures world { (w : World) (model : HartModel) → RepresentsMachine self.old w → slice_get w.harts hart ≡ Some model →
-            RepresentsMachine self.new (with_hart w hart (with_local_state model (after_write write model.registers))) }
+            HasRunOn self.new w hart model table.now result }
+        ensures most { result.made ≤ most }
+        ensures few { result.passed ≤ result.made }
         ensures program { program_in self.new ≡ program_in self.old }
         ensures log { log_by self.new ≡ log_by self.old }
-        ensures events { events_of self.new ≡ events_of self.old + 1 }
+        ensures events { events_of self.new ≡ events_of self.old + result.made }
     {
-        self.harts[hart as usize].step_locally(write);
-        self.events += 1;
+        match self.phases[hart as usize] {
+            Phase::Run => {
+                let ran = table.run(&mut self.harts[hart as usize], most);
+                self.events += u64::from(ran.made);
+                ran
+            }
+            _ => Ran { made: 0, passed: 0 },
+        }
     }
 
     /// The phase of a hart.

@@ -49,6 +49,21 @@ pub trait Core {
         ensures harts { hart_count self.new ≡ hart_count self.old }
         ensures evictable { (line mask : ℕ) → evictable self.new line mask ↔ evictable self.old line mask };
 
+    /// Makes so many steps of a hart: it does what as many events do, each of them a step of the hart.
+    fn steps(&mut self, hart: u32, count: u64)
+        requires hart { hart < hart_count self.old }
+        requires room { count ≤ space self.old }
+        ensures opening { opening self.new ≡ opening self.old }
+        ensures history { history self.new ≡ history self.old ++ replicate count (Step hart) }
+        ensures room { space self.new + count ≡ space self.old }
+        ensures harts { hart_count self.new ≡ hart_count self.old }
+        ensures evictable { (line mask : ℕ) → evictable self.new line mask ↔ evictable self.old line mask }
+    {
+        for _ in 0..count {
+            self.event(Event::Step(hart));
+        }
+    }
+
     /// How many more events may be made.
     fn room(&self) -> u64
         ensures { result ≡ space self.now };

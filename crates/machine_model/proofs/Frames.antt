@@ -6,13 +6,15 @@ use Rattle.std.proofs.lemmas.Bool.{cases_eq, cond_both, and_parts, ltb-true, eqb
 use Rattle.std.proofs.Math.ListN.{length-set, length-append}
 use Rattle.std.proofs.lemmas.List.{length-map, length-replicate}
 use Rattle.log_schemes.specs.declared.log.Log.{Log}
-use Rattle.log_schemes.specs.declared.log.Log.TheVariants.{V1, V2}
+use Rattle.log_schemes.specs.declared.size.LogSize.{LogSize}
+use Rattle.log_schemes.specs.declared.size.LogSize.TheVariants.{Lines16, Lines32}
+use Rattle.log_schemes.specs.Schemes.{lines_of, size_of}
 use Rattle.machine_events.specs.declared.event.Event.TheVariants.{Step, Evict, Crash, Start}
 use Rattle.machine_events.specs.declared.event.Reply.TheVariants.{Waits}
 use Rattle.ido_base.specs.Words.{Word, Entry, entry_of, stored, drained, evicted, word_of, durable_value}
 use Rattle.ido_base.specs.Locks.{is_held_by, least_held, least_missing}
-use Rattle.ido_base.specs.Layout.{aligned, byte_number, words_of_bytes, variables_base, logs_base}
-use Rattle.log_schemes.specs.Layout.{in_range, word_count, initial_words}
+use Rattle.ido_base.specs.Layout.{aligned, byte_number, line_bytes, variable_lines, words_of_bytes, variables_base, logs_base}
+use Rattle.log_schemes.specs.Layout.{in_range, log_lines, log_words, word_count, initial_words}
 use Rattle.ido_base.specs.Growth.{AreChanged, AreEntries}
 use Rattle.ido_base.proofs.Public.{changed_refl, changed_by_persisted, stores_change, evictions_raise, write_backs_raise, entries_stay, entries_append}
 use Rattle.ido_base.proofs.Public.{clean_entry}
@@ -58,22 +60,33 @@ set_none (z ∷ zs) zero x e = absurd (subst (λ o. is_none_there o) e tt)
     is_none_there (Some y) = Unit {0}
 set_none (z ∷ zs) (suc i) x e = ap (λ ys. z ∷ ys) (set_none zs i x e)
 
+-- bytes of all logs, by lines
+bytes_of_logs : (size : LogSize) (harts : ℕ) → line_bytes * lines_of size * harts ≡ 64 * (lines_of size * harts)
+bytes_of_logs Lines16 harts = omega arith
+bytes_of_logs Lines32 harts = omega arith
+
 -- the line of an address that is in range
 line_inside : (log : Log) (harts address : ℕ) → in_range log harts address 1 ≡ true → 8 * (byte_number address / 64) + 8 ≤ word_count log harts
-line_inside V1 harts address inside = by_half (nat_lt address logs_base) refl (or_cases _ _ inside)
+line_inside log harts address inside = by_half (nat_lt address logs_base) refl (or_cases _ _ inside)
   where
+    lines : ℕ
+    lines = log_lines log * harts
+
+    all_bytes : line_bytes * log_lines log * harts ≡ 64 * lines
+    all_bytes = bytes_of_logs (size_of log) harts
+
     in_variables : (nat_le variables_base address && nat_le (address + 1) (variables_base + 65536)) ≡ true →
         (variables_base ≤ address) × (address + 1 ≤ variables_base + 65536)
     in_variables e = let h = and_parts _ _ e in (leb-true _ _ h.0, leb-true _ _ h.1)
 
-    in_logs : (nat_le logs_base address && nat_le (address + 1) (logs_base + 1024 * harts)) ≡ true →
-        (logs_base ≤ address) × (address + 1 ≤ logs_base + 1024 * harts)
+    in_logs : (nat_le logs_base address && nat_le (address + 1) (logs_base + line_bytes * log_lines log * harts)) ≡ true →
+        (logs_base ≤ address) × (address + 1 ≤ logs_base + line_bytes * log_lines log * harts)
     in_logs e = let h = and_parts _ _ e in (leb-true _ _ h.0, leb-true _ _ h.1)
 
     by_half : (b : Bool) → nat_lt address logs_base ≡ b
         → ((nat_le variables_base address && nat_le (address + 1) (variables_base + 65536)) ≡ true)
-        ⊎ ((nat_le logs_base address && nat_le (address + 1) (logs_base + 1024 * harts)) ≡ true)
-        → 8 * (byte_number address / 64) + 8 ≤ word_count V1 harts
+        ⊎ ((nat_le logs_base address && nat_le (address + 1) (logs_base + line_bytes * log_lines log * harts)) ≡ true)
+        → 8 * (byte_number address / 64) + 8 ≤ 8 * (variable_lines + lines)
     by_half true e (inl h) =
         let r = in_variables h in
         let n : byte_number address ≡ address - variables_base = ap (λ b. cond b (address - variables_base) (65536 + (address - logs_base))) e in
@@ -83,31 +96,7 @@ line_inside V1 harts address inside = by_half (nat_lt address logs_base) refl (o
     by_half false e (inr h) =
         let r = in_logs h in
         let n : byte_number address ≡ 65536 + (address - logs_base) = ap (λ b. cond b (address - variables_base) (65536 + (address - logs_base))) e in
-        omega (arith, n, r.0, r.1)
-line_inside V2 harts address inside = by_half (nat_lt address logs_base) refl (or_cases _ _ inside)
-  where
-    in_variables : (nat_le variables_base address && nat_le (address + 1) (variables_base + 65536)) ≡ true →
-        (variables_base ≤ address) × (address + 1 ≤ variables_base + 65536)
-    in_variables e = let h = and_parts _ _ e in (leb-true _ _ h.0, leb-true _ _ h.1)
-
-    in_logs : (nat_le logs_base address && nat_le (address + 1) (logs_base + 2048 * harts)) ≡ true →
-        (logs_base ≤ address) × (address + 1 ≤ logs_base + 2048 * harts)
-    in_logs e = let h = and_parts _ _ e in (leb-true _ _ h.0, leb-true _ _ h.1)
-
-    by_half : (b : Bool) → nat_lt address logs_base ≡ b
-        → ((nat_le variables_base address && nat_le (address + 1) (variables_base + 65536)) ≡ true)
-        ⊎ ((nat_le logs_base address && nat_le (address + 1) (logs_base + 2048 * harts)) ≡ true)
-        → 8 * (byte_number address / 64) + 8 ≤ word_count V2 harts
-    by_half true e (inl h) =
-        let r = in_variables h in
-        let n : byte_number address ≡ address - variables_base = ap (λ b. cond b (address - variables_base) (65536 + (address - logs_base))) e in
-        omega (arith, n, r.0, r.1)
-    by_half true e (inr h) = absurd (omega (arith, (in_logs h).0, ltb-true _ _ e))
-    by_half false e (inl h) = absurd (omega (arith, (in_variables h).1, ltb-false _ _ e))
-    by_half false e (inr h) =
-        let r = in_logs h in
-        let n : byte_number address ≡ 65536 + (address - logs_base) = ap (λ b. cond b (address - variables_base) (65536 + (address - logs_base))) e in
-        omega (arith, n, r.0, r.1)
+        omega (arith, n, r.0, r.1, all_bytes)
 
 -- ---- What hart h does, and that its own queue stands
 
@@ -372,18 +361,18 @@ length-words : (bytes : List ℕ) (count : ℕ) → length (words_of_bytes bytes
 length-words bytes zero = refl
 length-words bytes (suc count) = let more = length-words (drop 8 bytes) count in omega (arith, more)
 
+words_by_size : (size : LogSize) (threads : ℕ) → 8 * lines_of size * threads ≡ 8 * (lines_of size * threads)
+words_by_size Lines16 threads = omega arith
+words_by_size Lines32 threads = omega arith
+
 length-initial : (log : Log) (threads : ℕ) (bytes : List ℕ) → length (initial_words log threads bytes) ≡ word_count log threads
 unfolding initial_words
-length-initial V1 threads bytes =
+length-initial log threads bytes =
     let a = length-words bytes 8192 in
-    let b = length-replicate {A = ℕ} (128 * threads) 0 in
-    let c = length-append (words_of_bytes bytes 8192) (replicate (128 * threads) 0) in
-    omega (arith, a, b, c)
-length-initial V2 threads bytes =
-    let a = length-words bytes 8192 in
-    let b = length-replicate {A = ℕ} (256 * threads) 0 in
-    let c = length-append (words_of_bytes bytes 8192) (replicate (256 * threads) 0) in
-    omega (arith, a, b, c)
+    let b = length-replicate {A = ℕ} (log_words log * threads) 0 in
+    let c = length-append (words_of_bytes bytes 8192) (replicate (log_words log * threads) 0) in
+    let d : log_words log * threads ≡ 8 * (log_lines log * threads) = words_by_size (size_of log) threads in
+    omega (arith, a, b, c, d)
 
 fresh_harts : (program : List (List Slot)) (phase : ℕ → Phase) →
     length (map (λ thread. fresh_hart program (phase thread) thread) (numbers_from 0 (length program))) ≡ length program

@@ -1,16 +1,15 @@
 -- Code of a boundary is a run, straight or in parts, and its items are a piece.
 use Rattle.std.proofs.Common.{◌≡◌, ℕ, ◌+◌, ◌^◌, ◌<◌, ◌≤◌, List, [], ◌∷◌, ◌++◌, length, map, ap, sym, ◌∙◌, arith, subst, Bool, false}
 use Rattle.std.specs.Prelude.{sum_by, pos}
-use Rattle.log_schemes.specs.declared.log.Log.{Log}
 use Rattle.rv64_isa.specs.declared.instr.Instr.{Instr}
 use Rattle.rv64_isa.specs.declared.object.CodeItem.{CodeItem}
 use Rattle.rv64_isa.specs.declared.object.CodeItem.TheVariants.{ResumeNext}
 use Rattle.rv64_link.specs.LabelledCode.{most_words_of}
-use Rattle.boundary_code.specs.Boundaries.{Boundary, IsOnSide, resume_address, words_beside}
+use Rattle.boundary_code.specs.Boundaries.{Boundary, IsOnSide, words_beside}
+use Rattle.boundary_code.specs.links.BoundaryParts.{DoesBoundary, in_parts, resume_address, undivided}
+use Rattle.boundary_code.proofs.Public.{code_does}
 use Rattle.code_runs.specs.CodeTraces.{GoesThrough}
-use Rattle.node_code.specs.BoundaryCode.{IsBoundaryCode, undivided, in_parts}
-use Rattle.log_schemes.specs.declared.keeping.Keeping.{Keeping}
-use Rattle.node_code.specs.Numbers.{LeaveAs, LeaveLocks}
+use Rattle.node_code.specs.Numbers.{LeaveLocks}
 use Rattle.node_code.specs.Pieces.{LeavesRegisters, boundary_observations, IsBoundaryPiece, words_in}
 use Rattle.node_code.specs.Sites.{Linking, IsPart, mark_waits, begin_of, end_of}
 use Rattle.node_code.specs.links.BoundaryCode.{IsCodeOf}
@@ -23,25 +22,30 @@ use Rattle.node_code.proofs.LinkedPartRuns.{waiting, has_room}
 use Rattle.node_code.proofs.LegComposition.{fragment, more_room}
 use Rattle.node_code.proofs.BoundaryPieces.{boundary_leg, resumed_at, resume_stays, boundary_marks, boundary_resumes, boundary_words, boundary_exact}
 use Rattle.node_code.proofs.BoundaryPieces.{boundary_waits_on, boundary_labels}
-use Rattle.node_code.proofs.ListBoundaries.{list_leg}
+use Rattle.node_code.proofs.DividedBoundaries.{parts_leg}
 
 module _ (all : List CodeItem) (n : Linking all) where
   abbrev at : ℕ → ℕ
   at = n.linked.address_of
 
   -- from registers with which the codes leave the locks' numbers the code of the boundary is run, after the mark that waits for it
-  pub code_leg : (k : ℕ) (b : Boundary) (codes : List (List Instr)) (code : List Instr) (p : IsPart all k (plain code)) (x : List ℕ) (side to : ℕ) (w : Bool) →
-      mark_waits false p.before ≡ w → IsBoundaryCode b codes code → LeaveLocks b.log b.thread b.locks codes x → IsOnSide b.log side x →
+  does_leg : (k : ℕ) (b : Boundary) (codes : List (List Instr)) (code : List Instr) (p : IsPart all k (plain code)) (x : List ℕ) (side to : ℕ) (w : Bool) →
+      mark_waits false p.before ≡ w → DoesBoundary b codes code → LeaveLocks b.log b.thread b.locks codes x → IsOnSide b.log side x →
       resume_address b code (at k) ≡ to →
       GoesThrough n.environment (fragment x (at k) (at (k + length (plain code))) (length code)) (waiting w ++ boundary_observations b side to x)
       (LeavesRegisters b side x)
-  code_leg k b codes code p x side to w waits (undivided h) leave on e = boundary_leg all n k b code p x side to w waits h on e
-  code_leg k b codes code p x side to w waits (in_parts h) leave on e =
-      list_leg b.log h.lists b.thread b.live b.resume x b.locks h.some all n codes code h.parts h.thread_is
-      (subst (λ (keeping : Keeping). LeaveAs keeping b.log b.thread b.locks codes x) h.lists leave) h.few k p side to w waits on e
+  does_leg k b codes code p x side to w waits (undivided h) leave on e = boundary_leg all n k b code p x side to w waits h on e
+  does_leg k b codes code p x side to w waits (in_parts h) leave on e = parts_leg b x all n codes code h leave k p side to w waits on e
+
+  pub code_leg : (k : ℕ) (b : Boundary) (codes : List (List Instr)) (code : List Instr) (p : IsPart all k (plain code)) (x : List ℕ) (side to : ℕ) (w : Bool) →
+      mark_waits false p.before ≡ w → IsCodeOf b codes code → LeaveLocks b.log b.thread b.locks codes x → IsOnSide b.log side x →
+      resume_address b code (at k) ≡ to →
+      GoesThrough n.environment (fragment x (at k) (at (k + length (plain code))) (length code)) (waiting w ++ boundary_observations b side to x)
+      (LeavesRegisters b side x)
+  code_leg k b codes code p x side to w waits h leave on e = does_leg k b codes code p x side to w waits (code_does b codes code h.is) leave on e
 
   pub boundary_items_leg : (k : ℕ) (b : Boundary) (codes : List (List Instr)) (code : List Instr) (p : IsPart all k (boundary_items code)) (x : List ℕ)
-      (side : ℕ) → mark_waits false p.before ≡ false → IsBoundaryCode b codes code → b.resume ≡ pos 0 →
+      (side : ℕ) → mark_waits false p.before ≡ false → IsCodeOf b codes code → b.resume ≡ pos 0 →
       LeaveLocks b.log b.thread b.locks codes x → IsOnSide b.log side x →
       GoesThrough n.environment (fragment x (at k) (at (k + length (boundary_items code))) (length code))
       (boundary_observations b side (at (k + length (boundary_items code))) x)
@@ -68,8 +72,8 @@ is_boundary b codes code e h = record {
       let z : sum_by most_words_of (boundary_items code) ≡ length code = boundary_words code in
       let l : length code ≤ length b.live + words_beside b.log codes = h.short in
       omega arith;
-  fences = boundary_items_fences b codes code h.is;
-  cleans = boundary_cleans b codes code h.is;
+  fences = boundary_items_fences b codes code h;
+  cleans = boundary_cleans b codes code h;
   at = λ at. record {
     keeps = λ x side leave a.
         more_room at.linking.environment x (begin_of (boundary_items code) at) (end_of (boundary_items code) at) (length code)
@@ -77,7 +81,7 @@ is_boundary b codes code e h = record {
         (boundary_observations b side (end_of (boundary_items code) at) x) (LeavesRegisters b side x)
         (let z : words_in (boundary_items code) at ≡ length code = exact_words (boundary_items code) at (boundary_exact code) ∙ boundary_words code in
         omega (arith, z))
-        (boundary_items_leg at.items at.linking at.position b codes code at.is_part x side at.closed h.is e leave a);
+        (boundary_items_leg at.items at.linking at.position b codes code at.is_part x side at.closed h e leave a);
     marks = ap (λ (ns : List ℕ). map at.linking.linked.address_of ns) (boundary_marks at.items at.linking at.position code);
     resumes =
         ap (λ (ns : List ℕ). map at.linking.linked.address_of ns) (boundary_resumes at.items at.linking at.position code) ∙

@@ -17,14 +17,14 @@ use Rattle.rv64_isa.specs.declared.object.CodeItem.TheVariants.{ResumeNext}
 use Rattle.rv64_isa.specs.Rows.{Effect, Stores, Cleans, row, read, written}
 use Rattle.rv64_link.specs.LabelledCode.{most_words_of, stands_here, is_mark, is_resume, positions_from}
 use Rattle.boundary_code.specs.Boundaries.{Boundary, IsOnSide, boundary_effects, bank_effects, commit_effects}
-use Rattle.boundary_code.specs.Boundaries.{lines_in_use, slots_kept, resume_address, is_empty}
+use Rattle.boundary_code.specs.Boundaries.{lines_in_use, slots_kept, is_empty}
 use Rattle.log_schemes.specs.Schemes.{kept_locks, register_slot}
 use Rattle.operator_code.specs.StraightLineCode.{registers_after, left_by}
 use Rattle.operator_code.proofs.Public as s
 use Rattle.code_runs.specs.CodeTraces.{GoesThrough, AreMemory}
 use Rattle.node_code.specs.Sites.{Linking, IsPart, mark_waits}
 use Rattle.node_code.specs.Pieces.{LeavesRegisters, boundary_observations}
-use Rattle.boundary_code.specs.Boundaries.{IsStraightCodeOf}
+use Rattle.boundary_code.specs.links.BoundaryParts.{IsStraightCodeOf, resume_address}
 use Rattle.node_code.specs.links.ItemLists.{plain, boundary_items}
 use Rattle.node_code.proofs.ItemAddresses.{part_right, waits_append, waits_plain_on, labels_append, labels_plain}
 use Rattle.node_code.proofs.ItemAddresses.{positions_append, no_marks_in, no_resumes_in}

@@ -16,7 +16,8 @@ use Rattle.rv64_isa.specs.Arithmetic.{sign_extended}
 use Rattle.rv64_isa.specs.Rows.{Effect, next, read, row}
 use Rattle.rv64_link.specs.LabelledCode.{most_words_of, stands_here, is_mark, is_resume, positions_from}
 use Rattle.rv64_link.specs.LinkedCode.{IsInstructionAt}
-use Rattle.boundary_code.specs.Boundaries.{Boundary, IsOnSide, resume_address, is_empty, side_after, words_beside}
+use Rattle.boundary_code.specs.Boundaries.{Boundary, IsOnSide, is_empty, side_after, words_beside}
+use Rattle.boundary_code.specs.links.BoundaryParts.{resume_address}
 use Rattle.operator_code.specs.StraightLineCode.{IsConstant}
 use Rattle.operator_code.specs.ComputingCode.{AreRegisters}
 use Rattle.operator_code.proofs.Public as s
@@ -29,7 +30,7 @@ use Rattle.node_code.specs.Sites.{Site, Linking, IsPart, mark_waits, begin_of, e
 use Rattle.node_code.specs.Pieces.{IsClosed, resumes_in, Asks, LeavesRegisters, boundary_observations}
 use Rattle.node_code.specs.Pieces.{IsLockPiece, Locks, IsUnlockPiece, Unlocks, IsEnd, PieceLeads}
 use Rattle.node_code.specs.Pieces.{takes, gives, giving_bytes, words_in}
-use Rattle.node_code.specs.BoundaryCode.{IsQuiet, IsBoundaryCode}
+use Rattle.node_code.specs.BoundaryCode.{IsQuiet}
 use Rattle.node_code.specs.Numbers.{AsksNumber, IsSame, LeaveLocks, NumberAsked}
 use Rattle.node_code.specs.links.BoundaryCode.{IsCodeOf, call_code}
 use Rattle.node_code.specs.links.ItemLists.{plain, asking_items, boundary_items, lock_items, unlock_items, end_items}
@@ -247,7 +248,7 @@ module _ (b : Boundary) (codes : List (List Instr)) (numbering code : List Instr
       keeps = λ x side leave a.
           let leg : GoesThrough site.linking.environment (fragment x (to (k₁ + 1 + 1)) (to (k₁ + 1 + 1 + length after_call)) (length code))
           (boundary_observations b side (to (k₁ + 1 + 1 + length after_call)) x) (LeavesRegisters b side x) =
-          boundary_items_leg site.items site.linking (k₁ + 1 + 1) b codes code kept x side kept_closed h.is resume leave a in
+          boundary_items_leg site.items site.linking (k₁ + 1 + 1) b codes code kept x side kept_closed h resume leave a in
           let leg' : GoesThrough site.linking.environment (fragment x (to (k₁ + 1 + 1)) (end_of piece site) (length code))
           (boundary_observations b side (end_of piece site) x)
           (LeavesRegisters b side x) =
@@ -280,8 +281,8 @@ module _ (b : Boundary) (codes : List (List Instr)) (numbering code : List Instr
       labels = λ label. labels_append label first from_mark (asking_labels label numbering 1) (boundary_labels label code);
     };
     few = let l : length code ≤ length b.live + words_beside b.log codes = h.short in omega (arith, lock_words);
-    fences = lock_items_fences b codes numbering code quiet h.is;
-    cleans = lock_cleans b codes numbering code quiet h.is;
+    fences = lock_items_fences b codes numbering code quiet h;
+    cleans = lock_cleans b codes numbering code quiet h;
     at = locks;
   }
 
@@ -414,16 +415,16 @@ module _ (b : Boundary) (codes : List (List Instr)) (numbering code : List Instr
         (Mark ∷ boundary_observations b side (end_of given site) x) (LeavesRegisters b side x)
         here (ap too e)
         (code_leg site.items site.linking (k' + 1) b codes code q x side (end_of given site) true
-        (mark_waits_there site.items site.linking k' (plain code) first_part) h.is leave a resumes_after)
+        (mark_waits_there site.items site.linking k' (plain code) first_part) h leave a resumes_after)
 
     -- a boundary has code, so no mark waits after it
     asking_closed : mark_waits false asking_part.before ≡ false
     unfolding asking_part
     asking_closed =
         waits_right site.items k' (MarkNext ∷ plain code) from_asking site.is_part ∙ ap (λ (w : Bool). mark_waits w (MarkNext ∷ plain code)) site.closed ∙
-        by code h.is
+        by code h
       where
-        by : (code : List Instr) → IsBoundaryCode b codes code → mark_waits true (plain code) ≡ false
+        by : (code : List Instr) → IsCodeOf b codes code → mark_waits true (plain code) ≡ false
         by [] h = absurd (some_code b codes h)
         by (i ∷ is) h = waits_plain true i is
 
@@ -518,8 +519,8 @@ module _ (b : Boundary) (codes : List (List Instr)) (numbering code : List Instr
   is_unlock = record {
     closed = unlock_closed;
     few = let l : length code ≤ length b.live + words_beside b.log codes = h.short in omega (arith, unlock_words);
-    fences = unlock_items_fences b (is_empty b.locks) codes numbering code quiet h.is;
-    cleans = unlock_cleans b (is_empty b.locks) codes numbering code quiet h.is;
+    fences = unlock_items_fences b (is_empty b.locks) codes numbering code quiet h;
+    cleans = unlock_cleans b (is_empty b.locks) codes numbering code quiet h;
     at = unlocks;
   }
 

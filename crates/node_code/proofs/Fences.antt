@@ -16,10 +16,11 @@ use Rattle.rv64_isa.specs.Rows.{Effect, Continues, Loads, Stores, Cleans, Fences
 use Rattle.rv64_link.specs.LabelledCode.{is_fence, one_if, fences_of, fences_in}
 use Rattle.rv64_link.specs.LinkedCode.{AreInstructions}
 use Rattle.rv64_link.proofs.Public.{no_instructions, more_instructions, within, some_at}
-use Rattle.boundary_code.specs.Boundaries.{Boundary, HasEffects, boundary_effects, bank_effects}
-use Rattle.boundary_code.specs.Boundaries.{commit_effects, lines_in_use, slots_kept, resume_address}
-use Rattle.log_schemes.specs.Schemes.{kept_locks, lock_slot, register_slot}
-use Rattle.boundary_code.specs.Boundaries.{IsUnderWay, Opens, Closes, closing_effects, keep_locks, other_side}
+use Rattle.boundary_code.specs.Boundaries.{Boundary, boundary_effects, bank_effects, first_kept}
+use Rattle.boundary_code.specs.Boundaries.{commit_effects, lines_in_use, slots_kept}
+use Rattle.log_schemes.specs.Schemes.{keeping_of, kept_locks, lock_slot, register_slot}
+use Rattle.boundary_code.specs.Boundaries.{IsUnderWay, keep_locks, other_side}
+use Rattle.boundary_code.specs.links.BoundaryParts.{Closes, DoesBoundary, HasEffects, IsInParts, Opens, closing_effects, in_parts, resume_address, undivided}
 use Rattle.operator_code.specs.StraightLineCode.{effects, registers_after, seen, left_by}
 use Rattle.operator_code.specs.declared.branches.Test.{Test}
 use Rattle.node_code.specs.Sites.{Linking, IsPart, Site, begin_of, end_of}
@@ -27,8 +28,9 @@ use Rattle.node_code.specs.links.ItemLists.{plain, asking_items, boundary_items,
 use Rattle.rv64_isa.specs.declared.instr.ImmediateOperation.TheVariants.{Addi}
 use Rattle.node_code.proofs.ItemAddresses.{item_at}
 use Rattle.boundary_code.specs.Boundaries.{is_empty}
-use Rattle.boundary_code.proofs.Public.{fresh_on_side}
-use Rattle.node_code.specs.BoundaryCode.{IsQuiet, IsListedCodeOf, IsBoundaryCode, undivided, in_parts}
+use Rattle.boundary_code.proofs.Public.{code_does, fresh_on_side}
+use Rattle.node_code.specs.BoundaryCode.{IsQuiet}
+use Rattle.node_code.specs.links.BoundaryCode.{IsCodeOf}
 use Rattle.node_code.proofs.ListLegs.{plain_both}
 use Rattle.rv64_isa.specs.declared.instr.StoreKind.TheVariants.{Sd}
 use Rattle.log_schemes.specs.declared.log.Log.{Log}
@@ -141,8 +143,8 @@ straight_fences b code h =
     sym (fences_are_seen code zeros 0) ∙ ap fences_seen (h.does zeros 0 0 (fresh_on_side b.log)) ∙ two_seen b 0 (resume_address b code 0) zeros
 
 -- of two parts the first one has none, and the last one both
-opening_fences : (log : Log) (thread count : ℕ) (code : List Instr) → Opens log thread count code → fences_in (plain code) ≡ 0
-opening_fences log thread count code opens = sym (fences_are_seen code zeros 0) ∙ ap fences_seen (opens.does zeros 0 0 (fresh_on_side log))
+opening_fences : (log : Log) (thread value : ℕ) (code : List Instr) → Opens log thread value code → fences_in (plain code) ≡ 0
+opening_fences log thread value code opens = sym (fences_are_seen code zeros 0) ∙ ap fences_seen (opens.does zeros 0 0 (fresh_on_side log))
 
 closing_seen : (b : Boundary) (bank resume : ℕ) (x : List ℕ) → fences_seen (closing_effects b bank resume x) ≡ 2
 closing_seen b bank resume x =
@@ -174,33 +176,36 @@ locks_fences log index (code ∷ codes) quiet =
     let first = quiet.0.fences in
     omega (arith, more, sum, one, first)
 
-listed_fences : (b : Boundary) (codes : List (List Instr)) (code : List Instr) → IsListedCodeOf b codes code → fences_in (plain code) ≡ 2
-listed_fences b codes code h =
-    let opening : List Instr = h.parts.opening in
+parts_fences : (b : Boundary) (codes : List (List Instr)) (code : List Instr) → IsInParts b codes code → AllByRecursion IsQuiet codes →
+    fences_in (plain code) ≡ 2
+parts_fences b codes code h quiet =
+    let opening : List Instr = h.opening in
     let middle : List Instr = keep_locks b.log 0 codes in
-    let closing : List Instr = h.parts.closing in
-    let made : Boundary = record { log = b.log; thread = b.thread; locks = b.locks; live = b.live; resume = b.resume } in
-    let first : fences_in (plain opening) ≡ 0 = opening_fences b.log b.thread (length codes) opening h.parts.opens in
-    let second : fences_in (plain middle) ≡ 0 = locks_fences b.log 0 codes h.quiet in
+    let closing : List Instr = h.closing in
+    let first : fences_in (plain opening) ≡ 0 = opening_fences b.log b.thread (first_kept (keeping_of b.log) b.locks) opening h.opens in
+    let second : fences_in (plain middle) ≡ 0 = locks_fences b.log 0 codes quiet in
     let third : fences_in (plain closing) ≡ 2 =
-    closing_fences made closing (registers_after opening zeros 0) (h.parts.closes b.locks h.many)
-    (h.parts.opens.leaves zeros 0 0 (fresh_on_side b.log)) in
+    closing_fences b closing (registers_after opening zeros 0) h.closes (h.opens.leaves zeros 0 0 (fresh_on_side b.log)) in
     let outer : fences_in (plain code) ≡ fences_in (plain opening) + fences_in (plain (middle ++ closing)) =
-    ap (λ (is : List Instr). fences_in (plain is)) h.parts.split
+    ap (λ (is : List Instr). fences_in (plain is)) h.split
     ∙ (ap (λ (is : List CodeItem). fences_in is) (plain_both opening (middle ++ closing)) ∙ fences_append (plain opening) (plain (middle ++ closing))) in
     let inner : fences_in (plain (middle ++ closing)) ≡ fences_in (plain middle) + fences_in (plain closing) =
     ap (λ (is : List CodeItem). fences_in is) (plain_both middle closing) ∙ fences_append (plain middle) (plain closing) in
     omega (arith, first, second, third, outer, inner)
 
-pub boundary_fences : (b : Boundary) (codes : List (List Instr)) (code : List Instr) → IsBoundaryCode b codes code → fences_in (plain code) ≡ 2
-boundary_fences b codes code (undivided h) = straight_fences b code h.effects_are
-boundary_fences b codes code (in_parts h) = listed_fences b codes code h
+fences_where : (b : Boundary) (codes : List (List Instr)) (code : List Instr) → DoesBoundary b codes code → AllByRecursion IsQuiet codes →
+    fences_in (plain code) ≡ 2
+fences_where b codes code (undivided h) quiet = straight_fences b code h.effects_are
+fences_where b codes code (in_parts h) quiet = parts_fences b codes code h quiet
+
+pub boundary_fences : (b : Boundary) (codes : List (List Instr)) (code : List Instr) → IsCodeOf b codes code → fences_in (plain code) ≡ 2
+boundary_fences b codes code h = fences_where b codes code (code_does b codes code h.is) h.quiet
 
 -- it isn't empty
-pub some_code : (b : Boundary) (codes : List (List Instr)) → IsBoundaryCode b codes [] → ⊥
+pub some_code : (b : Boundary) (codes : List (List Instr)) → IsCodeOf b codes [] → ⊥
 some_code b codes h = let two : 0 ≡ 2 = boundary_fences b codes [] h in omega (arith, two)
 
-pub boundary_items_fences : (b : Boundary) (codes : List (List Instr)) (code : List Instr) → IsBoundaryCode b codes code →
+pub boundary_items_fences : (b : Boundary) (codes : List (List Instr)) (code : List Instr) → IsCodeOf b codes code →
     fences_in (boundary_items code) ≡ 2
 boundary_items_fences b codes code h =
     let two = boundary_fences b codes code h in let sum = fences_append (plain code) (ResumeNext ∷ []) in omega (arith, two, sum)
@@ -214,7 +219,7 @@ asking_fences numbering call quiet =
     let first = quiet.fences in
     omega (arith, sum, first)
 
-pub lock_items_fences : (b : Boundary) (codes : List (List Instr)) (numbering code : List Instr) → IsQuiet numbering → IsBoundaryCode b codes code →
+pub lock_items_fences : (b : Boundary) (codes : List (List Instr)) (numbering code : List Instr) → IsQuiet numbering → IsCodeOf b codes code →
     fences_in (lock_items numbering code) ≡ 2
 lock_items_fences b codes numbering code quiet h =
     let rest : List CodeItem = MarkNext ∷ Instruction Ecall ∷ boundary_items code in
@@ -225,7 +230,7 @@ lock_items_fences b codes numbering code quiet h =
     omega (arith, sum, called, first, last)
 
 pub unlock_items_fences : (b : Boundary) (ends : Bool) (codes : List (List Instr)) (numbering code : List Instr) → IsQuiet numbering →
-    IsBoundaryCode b codes code → fences_in (unlock_items numbering ends code) ≡ 2
+    IsCodeOf b codes code → fences_in (unlock_items numbering ends code) ≡ 2
 unlock_items_fences b ends codes numbering code quiet h =
     let last : List CodeItem = Instruction Ecall ∷ (if ends then [] else ResumeNext ∷ []) in
     let sum = fences_append (MarkNext ∷ plain code) (asking_items numbering 2 ++ last) in

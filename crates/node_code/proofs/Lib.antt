@@ -7,7 +7,7 @@ mod StorePieces
 mod NumberRuns
 mod ListLegs
 mod BoundaryPieces
-mod ListBoundaries
+mod DividedBoundaries
 mod BoundaryLegs
 mod CallPieces
 mod CodeLists

@@ -1,4 +1,4 @@
--- The locks of a boundary whose bank lists them: of each the code that leaves its number, and a store into its slot.
+-- The locks of a boundary that have slots of their own: of each the code that leaves its number, and a store into its slot.
 use Rattle.std.proofs.Common.{◌≡◌, ℕ, zero, suc, ◌+◌, ◌*◌, ◌^◌, ◌<◌, ◌≤◌, List, [], ◌∷◌, ◌++◌, length, refl, ap, sym, ◌∙◌, arith, subst, Bool, false}
 use Rattle.std.proofs.lemmas.List.{length-append}
 use Rattle.ido_base.specs.declared.limits.TheConstants.{MOST_THREADS}
@@ -11,9 +11,8 @@ use Rattle.rv64_isa.specs.declared.object.CodeItem.{CodeItem}
 use Rattle.rv64_isa.specs.declared.object.CodeItem.TheVariants.{Instruction}
 use Rattle.rv64_isa.specs.Rows.{Stores, read}
 use Rattle.boundary_code.specs.Boundaries.{IsUnderWay, keep_locks}
-use Rattle.log_schemes.specs.declared.keeping.Keeping.TheVariants.{Listed}
-use Rattle.log_schemes.specs.Schemes.{keeping_of, listed_from, lock_slot}
-use Rattle.boundary_code.proofs.Public.{lock_slots_few, number_stored, stores_of}
+use Rattle.log_schemes.specs.Schemes.{listed_from, lock_slot}
+use Rattle.boundary_code.proofs.Public.{number_stored, stores_of}
 use Rattle.code_runs.specs.ComputingRuns as r
 use Rattle.code_runs.specs.CodeTraces.{Observation, Does, GoesThrough, seen_effects}
 use Rattle.node_code.specs.Numbers.{LeavesNumber, LeaveNumbers, NumberLeft}
@@ -85,21 +84,23 @@ module _ (all : List CodeItem) (n : Linking all) where
 
   -- ---- All of them
 
-  module _ (log : Log) (listed : keeping_of log ≡ Listed) (thread bank : ℕ) (x : List ℕ) (small : thread < MOST_THREADS) (below : bank < 2) where
+  -- where the slots of so many locks are a bank's
+  module _ (log : Log) (most : ℕ) (slots : (index : ℕ) → index < most → lock_slot log index < 48) (thread bank : ℕ) (x : List ℕ) (small : thread < MOST_THREADS)
+      (below : bank < 2) where
     abbrev Under : List ℕ → Type 0
     Under y = IsUnderWay log thread bank x y
 
     -- the store of one
-    stored_leg : (k index : ℕ) (p : IsPart all k (plain (kept log index ∷ []))) → mark_waits false p.before ≡ false → (y : List ℕ) (number : ℕ) → index < 16 →
+    stored_leg : (k index : ℕ) (p : IsPart all k (plain (kept log index ∷ []))) → mark_waits false p.before ≡ false → (y : List ℕ) (number : ℕ) → index < most →
         Under y → read y 5 ≡ number →
         GoesThrough n.environment (fragment y (at k) (at (k + 1)) 1) (Does (Stores (slot_at log thread bank (lock_slot log index)) 8 number) ∷ []) (λ z. z ≡ y)
     stored_leg k index p closed y number low under is =
         straight_leg_on all n k (kept log index ∷ []) p y y (Stores (slot_at log thread bank (lock_slot log index)) 8 number ∷ []) closed
-        (number_stored log thread bank (lock_slot log index) x y number (at k) small below (lock_slots_few log index listed low) under is) (refl, tt)
+        (number_stored log thread bank (lock_slot log index) x y number (at k) small below (slots index low) under is) (refl, tt)
 
     -- from registers within the boundary the slots get the numbers, in their order, and registers are within it still
-    pub locks_leg : (index : ℕ) (numbers : List ℕ) (codes : List (List Instr)) → index + length numbers ≤ 16 → LeaveNumbers log thread x numbers codes → (k : ℕ)
-        (p : IsPart all k (lock_parts log index codes)) → mark_waits false p.before ≡ false → (y : List ℕ) → Under y →
+    pub locks_leg : (index : ℕ) (numbers : List ℕ) (codes : List (List Instr)) → index + length numbers ≤ most → LeaveNumbers log thread x numbers codes →
+        (k : ℕ) (p : IsPart all k (lock_parts log index codes)) → mark_waits false p.before ≡ false → (y : List ℕ) → Under y →
         GoesThrough n.environment (fragment y (at k) (at (k + length (lock_parts log index codes))) (length (keep_locks log index codes)))
         (seen_effects (stores_of log thread bank (listed_from log index numbers))) Under
     locks_leg index [] [] few leave k p closed y under =
@@ -136,7 +137,6 @@ module _ (all : List CodeItem) (n : Linking all) where
         omega (arith, length-append (plain code) (Instruction (kept log index) ∷ rest)) in
         let few_words : length code + 1 + words ≤ length (keep_locks log index (code ∷ codes)) =
         omega (arith, length-append code (kept log index ∷ keep_locks log (index + 1) codes)) in
-        more_room s y (at k) (at (k + length (lock_parts log index (code ∷ codes)))) (length code + 1 + words) (length (keep_locks log index (code ∷ codes)))
-        (store ++ more) Under few_words
-        (moved s y (at k) (at k) (at (k2 + 1 + length rest)) (at (k + length (lock_parts log index (code ∷ codes)))) (length code + 1 + words) (store ++ more) Under
-        refl (ap at end) whole)
+        let to : ℕ = at (k + length (lock_parts log index (code ∷ codes))) in
+        more_room s y (at k) to (length code + 1 + words) (length (keep_locks log index (code ∷ codes))) (store ++ more) Under few_words
+        (moved s y (at k) (at k) (at (k2 + 1 + length rest)) to (length code + 1 + words) (store ++ more) Under refl (ap at end) whole)

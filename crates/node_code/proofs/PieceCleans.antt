@@ -11,7 +11,8 @@ use Rattle.rv64_isa.specs.declared.object.Label.{Label}
 use Rattle.boundary_code.specs.Boundaries.{Boundary}
 use Rattle.operator_code.specs.declared.branches.Test.{Test}
 use Rattle.node_code.specs.Cleans.{cleans_of, cleans_in}
-use Rattle.node_code.specs.BoundaryCode.{IsQuiet, IsBoundaryCode, CleansInBoundary}
+use Rattle.node_code.specs.BoundaryCode.{IsQuiet, CleansInBoundary}
+use Rattle.node_code.specs.links.BoundaryCode.{IsCodeOf}
 use Rattle.node_code.specs.links.ItemLists.{plain, asking_items, boundary_items, lock_items, unlock_items, computing_items, choice_items}
 
 pub cleans_append : (xs ys : List CodeItem) → cleans_in (xs ++ ys) ≡ cleans_in xs + cleans_in ys
@@ -22,14 +23,15 @@ cleans_cons x xs = sum_by-cons cleans_of x xs
 
 -- ---- Boundaries
 
-pub boundary_cleans : (b : Boundary) (codes : List (List Instr)) (code : List Instr) → IsBoundaryCode b codes code → CleansInBoundary b (boundary_items code)
+pub boundary_cleans : (b : Boundary) (codes : List (List Instr)) (code : List Instr) → IsCodeOf b codes code → CleansInBoundary b (boundary_items code)
 boundary_cleans b codes code h = record {
   before = [];
   codes = codes;
   code = code;
   after = ResumeNext ∷ [];
   split = refl;
-  does = h;
+  is_code = h.is;
+  quiet = h.quiet;
   none_before = refl;
   none_after = refl;
 }
@@ -41,7 +43,7 @@ asking_cleans numbering call quiet =
     let first = quiet.cleans in
     omega (arith, sum, first)
 
-pub lock_cleans : (b : Boundary) (codes : List (List Instr)) (numbering code : List Instr) → IsQuiet numbering → IsBoundaryCode b codes code →
+pub lock_cleans : (b : Boundary) (codes : List (List Instr)) (numbering code : List Instr) → IsQuiet numbering → IsCodeOf b codes code →
     CleansInBoundary b (lock_items numbering code)
 lock_cleans b codes numbering code quiet h = record {
   before = asking_items numbering 1 ++ (MarkNext ∷ Instruction Ecall ∷ []);
@@ -49,7 +51,8 @@ lock_cleans b codes numbering code quiet h = record {
   code = code;
   after = ResumeNext ∷ [];
   split = sym (append_assoc (asking_items numbering 1) (MarkNext ∷ Instruction Ecall ∷ []) (plain code ++ ResumeNext ∷ []));
-  does = h;
+  is_code = h.is;
+  quiet = h.quiet;
   none_before =
       let sum : cleans_in (asking_items numbering 1 ++ (MarkNext ∷ Instruction Ecall ∷ [])) ≡ cleans_in (asking_items numbering 1) + 0 =
       cleans_append (asking_items numbering 1) (MarkNext ∷ Instruction Ecall ∷ []) in
@@ -58,7 +61,7 @@ lock_cleans b codes numbering code quiet h = record {
   none_after = refl;
 }
 
-pub unlock_cleans : (b : Boundary) (ends : Bool) (codes : List (List Instr)) (numbering code : List Instr) → IsQuiet numbering → IsBoundaryCode b codes code →
+pub unlock_cleans : (b : Boundary) (ends : Bool) (codes : List (List Instr)) (numbering code : List Instr) → IsQuiet numbering → IsCodeOf b codes code →
     CleansInBoundary b (unlock_items numbering ends code)
 unlock_cleans b ends codes numbering code quiet h = record {
   before = MarkNext ∷ [];
@@ -66,7 +69,8 @@ unlock_cleans b ends codes numbering code quiet h = record {
   code = code;
   after = asking_items numbering 2 ++ (Instruction Ecall ∷ (if ends then [] else ResumeNext ∷ []));
   split = refl;
-  does = h;
+  is_code = h.is;
+  quiet = h.quiet;
   none_before = refl;
   none_after =
       let last : List CodeItem = Instruction Ecall ∷ (if ends then [] else ResumeNext ∷ []) in

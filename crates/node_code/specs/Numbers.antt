@@ -1,14 +1,12 @@
 -- Code that leaves the number of a lock, wherever it stands in a boundary.
 use Rattle.std.specs.Prelude.{◌≡◌, ◌≢◌, ℕ, ◌+◌, ◌*◌, ◌^◌, ◌<◌, ◌≤◌, List, [], ◌∷◌, length, false}
 use Rattle.log_schemes.specs.declared.log.Log.{Log}
-use Rattle.log_schemes.specs.declared.keeping.Keeping.{Keeping}
-use Rattle.log_schemes.specs.declared.keeping.Keeping.TheVariants.{Masked, Listed}
 use Rattle.log_schemes.specs.Schemes.{keeping_of}
 use Rattle.rv64_isa.specs.declared.instr.Instr.{Instr}
 use Rattle.rv64_isa.specs.Rows.{read}
 use Rattle.memory_layout.specs.Roles.{bank_offset, is_temporary, lock}
 use Rattle.operator_code.specs.ComputingCode.{AreRegisters}
-use Rattle.boundary_code.specs.Boundaries.{IsUnderWay}
+use Rattle.boundary_code.specs.Boundaries.{IsUnderWay, listed_locks}
 use Rattle.code_runs.specs.ComputingRuns.{Environment, config, RunsTo, HasCodeAt}
 
 -- from registers y within a boundary, begun with registers x, the code leads from the address to its end, by at most one step a word, where x5 has the number;
@@ -53,12 +51,8 @@ pub record AsksNumber (x : List ℕ) (number : ℕ) (code : List Instr) : Type 0
   pub asks : (around : Environment) (y : List ℕ) (address : ℕ) → AreRegisters y → IsSame x y → HasCodeAt around address code →
       address + 4 * length code < 2 ^ 64 → NumberAsked around code y address number
 
--- ---- Where the log lists locks
+-- ---- In a boundary
 
--- registers from which codes leave the numbers of the locks, where the log lists them
-abbrev pub LeaveAs : Keeping → Log → (thread : ℕ) → (locks : List ℕ) → (codes : List (List Instr)) → (x : List ℕ) → Type 0
-LeaveAs Masked log thread locks codes x = Unit {0}
-LeaveAs Listed log thread locks codes x = LeaveNumbers log thread x locks codes
-
+-- registers from which codes leave the numbers of those locks that the log lists
 abbrev pub LeaveLocks : Log → (thread : ℕ) → (locks : List ℕ) → (codes : List (List Instr)) → (x : List ℕ) → Type 0
-LeaveLocks log thread locks codes x = LeaveAs (keeping_of log) log thread locks codes x
+LeaveLocks log thread locks codes x = LeaveNumbers log thread x (listed_locks (keeping_of log) locks) codes

@@ -1,10 +1,8 @@
 -- What pieces of a thread's code do, wherever they stand in its linked code.
 use Rattle.std.specs.Prelude.{◌≡◌, ◌≢◌, ℕ, ◌+◌, ◌-◌, ◌*◌, ◌/◌, ◌^◌, ◌<◌, ◌≤◌, List, [], ◌∷◌, ◌++◌, length, map, sum_by, Bool, false, if◌then◌else◌, pos}
 use Rattle.std.specs.List.{list_any}
-use Rattle.log_schemes.specs.declared.log.Log.{Log}
 use Rattle.log_schemes.specs.declared.keeping.Keeping.{Keeping}
 use Rattle.log_schemes.specs.declared.keeping.Keeping.TheVariants.{Masked, Listed}
-use Rattle.log_schemes.specs.Schemes.{keeping_of}
 use Rattle.ido_base.specs.Locks.{locks_in}
 use Rattle.ido_ints.specs.declared.kinds.Kind.{Kind}
 use Rattle.ido_ints.specs.Kinds.{bytes_of}
@@ -24,6 +22,8 @@ use Rattle.code_runs.specs.ComputingRuns as r
 use Rattle.code_runs.specs.ComputingRuns.{Environment, config}
 use Rattle.code_runs.specs.CodeTraces.{Observation, Mark, Does, GoesThrough, seen_effects, marked}
 use Rattle.node_code.specs.declared.kept.Kept as kept
+use Rattle.node_code.specs.declared.kept.KeptLocks.{KeptLocks}
+use Rattle.node_code.specs.declared.kept.KeptLocks.TheVariants.{Mask, Numbers}
 use Rattle.node_code.specs.Cleans.{cleans_in, IsStoreThenClean}
 use Rattle.node_code.specs.BoundaryCode.{CleansInBoundary}
 use Rattle.node_code.specs.Numbers.{AsksNumber, LeaveLocks}
@@ -83,17 +83,20 @@ pub record IsStorePiece (kind : Kind) (cleans : Bool) (piece : List CodeItem) : 
 
 -- ---- Boundaries
 
+-- how a log must keep locks for such ones
+abbrev pub keeping_for : KeptLocks → Keeping
+keeping_for (Mask mask) = Masked
+keeping_for (Numbers numbers) = Listed
+
 -- of each lock that is held after the boundary the code of its number, where the log lists locks
-abbrev pub codes_of : kept.Kept → List (List Instr)
-codes_of k = lists_of k.numbers.now
+abbrev pub codes_of : KeptLocks → List (List Instr)
+codes_of (Mask mask) = []
+codes_of (Numbers numbers) = lists_of numbers.now
 
 -- the locks that a boundary keeps: those of the mask, or one for each code
-abbrev pub MayKeepAs : Keeping → (mask : ℕ) → (codes : List (List Instr)) → (locks : List ℕ) → Type 0
-MayKeepAs Masked mask codes locks = locks ≡ locks_in mask
-MayKeepAs Listed mask codes locks = length locks ≡ length codes
-
-abbrev pub MayKeep : Log → (mask : ℕ) → (codes : List (List Instr)) → (locks : List ℕ) → Type 0
-MayKeep log mask codes locks = MayKeepAs (keeping_of log) mask codes locks
+abbrev pub MayKeep : KeptLocks → (locks : List ℕ) → Type 0
+MayKeep (Mask mask) locks = locks ≡ locks_in mask
+MayKeep (Numbers numbers) locks = length locks ≡ length numbers.now
 
 -- the boundary that keeps these locks, and resumes so many bytes after its end
 abbrev pub boundary_of : kept.Kept → (locks : List ℕ) → (resume : ℕ) → Boundary
@@ -101,11 +104,11 @@ boundary_of k locks resume = record { log = k.log; thread = k.thread; locks = lo
 
 -- registers with which its codes leave the numbers of these locks
 abbrev pub KeepsFrom : kept.Kept → (locks : List ℕ) → (x : List ℕ) → Type 0
-KeepsFrom k locks x = LeaveLocks k.log k.thread locks (codes_of k) x
+KeepsFrom k locks x = LeaveLocks k.log k.thread locks (codes_of k.locks) x
 
 -- how many words it has at most, beside one for each live register
 abbrev pub kept_words : kept.Kept → ℕ
-kept_words k = words_beside k.log (codes_of k)
+kept_words k = words_beside k.log (codes_of k.locks)
 
 abbrev pub boundary_observations : Boundary → (side resume : ℕ) → (x : List ℕ) → List Observation
 boundary_observations b side resume x = seen_effects (boundary_effects b side resume x)
@@ -133,7 +136,7 @@ pub record IsBoundaryPiece (b : Boundary) (from : List ℕ → Type 0) (words : 
 -- whatever locks are kept, it is the boundary that keeps them
 abbrev pub IsBoundaryOf : kept.Kept → (piece : List CodeItem) → Type 0
 IsBoundaryOf k piece =
-    (locks : List ℕ) → MayKeep k.log k.mask (codes_of k) locks → IsBoundaryPiece (boundary_of k locks 0) (KeepsFrom k locks) (kept_words k) piece
+    (locks : List ℕ) → MayKeep k.locks locks → IsBoundaryPiece (boundary_of k locks 0) (KeepsFrom k locks) (kept_words k) piece
 
 -- ---- Calls
 
@@ -176,7 +179,7 @@ pub record IsLockPiece (b : Boundary) (asking from : List ℕ → Type 0) (words
 -- whatever locks are kept and whatever lock the code asks for
 abbrev pub IsLockOf : kept.Kept → (numbering : List Instr) → (piece : List CodeItem) → Type 0
 IsLockOf k numbering piece =
-    (locks : List ℕ) (lock : ℕ) → MayKeep k.log k.mask (codes_of k) locks →
+    (locks : List ℕ) (lock : ℕ) → MayKeep k.locks locks →
     IsLockPiece (boundary_of k locks 0) (λ x. AsksNumber x lock numbering) (KeepsFrom k locks) (kept_words k + length numbering) lock piece
 
 -- first the mark and a boundary, then the call, which is no mark; the point gets the address after the call, where the thread may be resumed if it still
@@ -207,7 +210,7 @@ giving_bytes numbering = 4 * length numbering + 8
 
 abbrev pub IsUnlockOf : kept.Kept → (numbering : List Instr) → (piece : List CodeItem) → Type 0
 IsUnlockOf k numbering piece =
-    (locks : List ℕ) (lock : ℕ) → MayKeep k.log k.mask (codes_of k) locks →
+    (locks : List ℕ) (lock : ℕ) → MayKeep k.locks locks →
     IsUnlockPiece (boundary_of k locks (giving_bytes numbering)) (λ x. AsksNumber x lock numbering) (KeepsFrom k locks) (kept_words k + length numbering) lock
     piece
 

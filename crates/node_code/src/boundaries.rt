@@ -2,19 +2,18 @@
 ghost use Rattle.std.specs.Prelude.{◌≡◌, ◌<◌, ◌≤◌, ◌++◌, IsTrue, IfOk, OnOk, pos, length};
 ghost use Rattle.std.specs.List.{list_all, AllByRecursion};
 ghost use Rattle.ido_base.specs.declared.limits.TheConstants.{MOST_THREADS};
-ghost use Rattle.log_schemes.specs.declared.keeping.Keeping.TheVariants.{Listed, Masked};
 ghost use Rattle.log_schemes.specs.Schemes.{keeping_of};
 ghost use Rattle.memory_layout.specs.Roles.{is_kept};
 ghost use Rattle.node_code.specs.BoundaryCode.{IsQuiet};
-ghost use Rattle.node_code.specs.Pieces.{Appends, IsBoundaryOf, codes_of};
+ghost use Rattle.node_code.specs.declared.kept.KeptLocks.TheVariants.{Mask, Numbers};
+ghost use Rattle.node_code.specs.Pieces.{Appends, IsBoundaryOf, codes_of, keeping_for};
 ghost use Rattle.node_code.specs.links.ItemLists.{boundary_items};
 ghost use Rattle.node_code.specs.links.BoundaryCode.{IsCodeFor};
 
 use crate::items::push_plain;
-use crate::kept::Kept;
+use crate::kept::{Kept, KeptLocks};
 use boundary_code::{boundary, boundary_list};
 use ido_base::memory::OutOfMemory;
-use log_schemes::keeping::Keeping;
 use rv64_isa::instr::Instr;
 use rv64_isa::object::CodeItem;
 use std::alloc::Global;
@@ -27,9 +26,10 @@ fn distance(bytes: u32) -> i32
     bytes as i32
 }
 
-/// The code of a boundary of a log that keeps a mask.
-fn mask_code(alloc: Global, kept: &Kept, resume: u32) -> Result<Vec<Instr>, OutOfMemory>
-    requires keeping { keeping_of kept.now.log ≡ Masked }
+/// The code of a boundary that keeps the locks of a mask.
+fn mask_code(alloc: Global, kept: &Kept, mask: u64, resume: u32) -> Result<Vec<Instr>, OutOfMemory>
+    requires locks { kept.now.locks ≡ Mask mask }
+    requires keeping { keeping_of kept.now.log ≡ keeping_for kept.now.locks }
     requires thread { kept.now.thread < MOST_THREADS }
     requires live { IsTrue (list_all is_kept kept.now.live.now) }
     requires near { resume ≤ 262144 }
@@ -39,20 +39,26 @@ fn mask_code(alloc: Global, kept: &Kept, resume: u32) -> Result<Vec<Instr>, OutO
         alloc,
         kept.log,
         kept.thread,
-        kept.mask,
+        mask,
         kept.live,
         distance(resume),
     )?;
     Ok(code)
 }
 
-/// The code of a boundary of a log that lists its locks.
-fn list_code(alloc: Global, kept: &Kept, resume: u32) -> Result<Vec<Instr>, OutOfMemory>
-    requires keeping { keeping_of kept.now.log ≡ Listed }
+/// The code of a boundary that keeps the locks whose numbers these codes leave.
+fn list_code(
+    alloc: Global,
+    kept: &Kept,
+    numbers: &[Vec<Instr>],
+    resume: u32,
+) -> Result<Vec<Instr>, OutOfMemory>
+    requires locks { kept.now.locks ≡ Numbers numbers }
+    requires keeping { keeping_of kept.now.log ≡ keeping_for kept.now.locks }
     requires thread { kept.now.thread < MOST_THREADS }
     requires live { IsTrue (list_all is_kept kept.now.live.now) }
-    requires room { length kept.now.numbers.now ≤ 16 }
-    requires quiet { AllByRecursion IsQuiet (codes_of kept.now) }
+    requires room { length (codes_of kept.now.locks) ≤ 16 }
+    requires quiet { AllByRecursion IsQuiet (codes_of kept.now.locks) }
     requires near { resume ≤ 262144 }
     ensures { IfOk result (λ code. IsCodeFor kept.now resume code.items) }
 {
@@ -60,29 +66,30 @@ fn list_code(alloc: Global, kept: &Kept, resume: u32) -> Result<Vec<Instr>, OutO
         alloc,
         kept.log,
         kept.thread,
-        kept.numbers,
+        numbers,
         kept.live,
         distance(resume),
     )?;
     Ok(code)
 }
 
-/// The code of a boundary that resumes so many bytes after its end, as its log wants it.
+/// The code of a boundary that resumes so many bytes after its end.
 pub(crate) fn boundary_code(
     alloc: Global,
     kept: &Kept,
     resume: u32,
 ) -> Result<Vec<Instr>, OutOfMemory>
+    requires keeping { keeping_of kept.now.log ≡ keeping_for kept.now.locks }
     requires thread { kept.now.thread < MOST_THREADS }
     requires live { IsTrue (list_all is_kept kept.now.live.now) }
-    requires room { length kept.now.numbers.now ≤ 16 }
-    requires quiet { AllByRecursion IsQuiet (codes_of kept.now) }
+    requires room { length (codes_of kept.now.locks) ≤ 16 }
+    requires quiet { AllByRecursion IsQuiet (codes_of kept.now.locks) }
     requires near { resume ≤ 262144 }
     ensures { IfOk result (λ code. IsCodeFor kept.now resume code.items) }
 {
-    match kept.log.keeping() {
-        Keeping::Masked => mask_code(alloc, kept, resume),
-        Keeping::Listed => list_code(alloc, kept, resume),
+    match kept.locks {
+        KeptLocks::Mask(mask) => mask_code(alloc, kept, mask, resume),
+        KeptLocks::Numbers(numbers) => list_code(alloc, kept, numbers, resume),
     }
 }
 
@@ -101,10 +108,11 @@ pub fn push_boundary(
     items: &mut Vec<CodeItem>,
     kept: &Kept,
 ) -> Result<(), OutOfMemory>
+    requires keeping { keeping_of kept.now.log ≡ keeping_for kept.now.locks }
     requires thread { kept.now.thread < MOST_THREADS }
     requires live { IsTrue (list_all is_kept kept.now.live.now) }
-    requires room { length kept.now.numbers.now ≤ 16 }
-    requires quiet { AllByRecursion IsQuiet (codes_of kept.now) }
+    requires room { length (codes_of kept.now.locks) ≤ 16 }
+    requires quiet { AllByRecursion IsQuiet (codes_of kept.now.locks) }
     ensures { OnOk result (Appends items.old.items items.new.items (IsBoundaryOf kept.now)) }
 {
     let code = boundary_code(alloc, kept, 0)?;

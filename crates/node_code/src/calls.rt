@@ -2,18 +2,16 @@
 ghost use Rattle.std.specs.Prelude.{◌≡◌, ◌<◌, ◌≤◌, ◌++◌, IsTrue, OnOk, length};
 ghost use Rattle.std.specs.List.{list_all, AllByRecursion};
 ghost use Rattle.ido_base.specs.declared.limits.TheConstants.{MOST_THREADS};
+ghost use Rattle.log_schemes.specs.Schemes.{keeping_of};
 ghost use Rattle.memory_layout.specs.Roles.{is_kept};
 ghost use Rattle.node_code.specs.BoundaryCode.{IsQuiet};
-ghost use Rattle.node_code.specs.Pieces.{Appends, IsLockOf, IsUnlockOf, IsEnd, codes_of, giving_bytes};
-ghost use Rattle.node_code.specs.links.BoundaryCode.{keeps_none};
+ghost use Rattle.node_code.specs.Pieces.{Appends, IsLockOf, IsUnlockOf, IsEnd, codes_of, giving_bytes, keeping_for};
 ghost use Rattle.node_code.specs.links.ItemLists.{asking_items, lock_items, unlock_items, end_items};
 
 use crate::boundaries::{append_boundary, boundary_code};
 use crate::items::{load_small, push_plain};
 use crate::kept::Kept;
 use ido_base::memory::OutOfMemory;
-use log_schemes::keeping::Keeping;
-use log_schemes::log::Log;
 use rv64_isa::field::Register;
 use rv64_isa::instr::Instr;
 use rv64_isa::object::CodeItem;
@@ -59,16 +57,6 @@ fn append_lock(
     append_boundary(items, boundary)
 }
 
-/// Whether no lock is kept, by the mask or by so many codes.
-fn keeps_none(log: Log, mask: u64, codes: usize) -> bool
-    ensures { result ≡ keeps_none log mask codes }
-{
-    match log.keeping() {
-        Keeping::Masked => mask == 0,
-        Keeping::Listed => codes == 0,
-    }
-}
-
 /// The boundary, after which a lock is given back; it may end a section.
 fn append_unlock(
     items: &mut Vec<CodeItem>,
@@ -106,10 +94,11 @@ pub fn push_lock(
     kept: &Kept,
     numbering: &[Instr],
 ) -> Result<(), OutOfMemory>
+    requires keeping { keeping_of kept.now.log ≡ keeping_for kept.now.locks }
     requires thread { kept.now.thread < MOST_THREADS }
     requires live { IsTrue (list_all is_kept kept.now.live.now) }
-    requires room { length kept.now.numbers.now ≤ 16 }
-    requires quiet { AllByRecursion IsQuiet (codes_of kept.now) }
+    requires room { length (codes_of kept.now.locks) ≤ 16 }
+    requires quiet { AllByRecursion IsQuiet (codes_of kept.now.locks) }
     requires some { 1 ≤ length numbering.now }
     requires quiet_number { IsQuiet numbering.now }
     ensures { OnOk result (Appends items.old.items items.new.items (IsLockOf kept.now numbering.now)) }
@@ -135,10 +124,11 @@ pub fn push_unlock(
     kept: &Kept,
     numbering: &[Instr],
 ) -> Result<(), OutOfMemory>
+    requires keeping { keeping_of kept.now.log ≡ keeping_for kept.now.locks }
     requires thread { kept.now.thread < MOST_THREADS }
     requires live { IsTrue (list_all is_kept kept.now.live.now) }
-    requires room { length kept.now.numbers.now ≤ 16 }
-    requires quiet { AllByRecursion IsQuiet (codes_of kept.now) }
+    requires room { length (codes_of kept.now.locks) ≤ 16 }
+    requires quiet { AllByRecursion IsQuiet (codes_of kept.now.locks) }
     requires some { 1 ≤ length numbering.now }
     requires short { giving_bytes numbering.now ≤ 262144 }
     requires quiet_number { IsQuiet numbering.now }
@@ -146,13 +136,7 @@ pub fn push_unlock(
 {
     let bytes = giving_bytes(numbering);
     let boundary = boundary_code(alloc, kept, bytes)?;
-    let count = kept.numbers.len();
-    append_unlock(
-        items,
-        numbering,
-        keeps_none(kept.log, kept.mask, count),
-        &boundary,
-    )
+    append_unlock(items, numbering, kept.locks.is_none(), &boundary)
 }
 
 /// Appends the code that ends the thread; its first instruction is the mark.

@@ -17,5 +17,5 @@ pub use boundaries::push_boundary;
 pub use calls::{push_end, push_lock, push_unlock};
 pub use evaluation::{push_choice, push_computing};
 pub use jumps::{push_branch, push_jump};
-pub use kept::Kept;
+pub use kept::{Kept, KeptLocks};
 pub use stores::push_store;

@@ -72,7 +72,7 @@ impl Counter {
     }
 
     /// The steps since the last crash.
-    fn steps(&self) -> u32
+    fn steps_made(&self) -> u32
         ensures steps { result ≡ played counting 0 self.now.journal.items }
         ensures bound { result ≤ 6 }
     {
@@ -129,7 +129,7 @@ impl Core for Counter {
     }
 
     fn event(&mut self, event: Event) -> Reply {
-        let reply = reply(self.steps(), event);
+        let reply = reply(self.steps_made(), event);
         if self.journal.push(event).is_err() {
             return Reply::Still;
         }
@@ -145,7 +145,7 @@ impl Core for Counter {
     }
 
     fn stopped(&self, _: u32) -> bool {
-        self.steps() >= STEPS
+        self.steps_made() >= STEPS
     }
 
     fn points(&self, _: u32) -> u64 {
@@ -157,7 +157,11 @@ impl Core for Counter {
     }
 
     fn can_step(&self) -> Option<u32> {
-        if self.steps() < STEPS { Some(0) } else { None }
+        if self.steps_made() < STEPS {
+            Some(0)
+        } else {
+            None
+        }
     }
 
     fn can_start(&self) -> bool {

@@ -134,7 +134,7 @@ impl<'a> Watched<'a> {
     }
 
     /// The steps of a hart.
-    fn steps(&self, hart: u32) -> u64
+    fn steps_made(&self, hart: u32) -> u64
         ensures { result ≡ steps_of hart self.now.journal.items }
     {
         let mut steps = 0;
@@ -226,14 +226,14 @@ impl<'a> Core for Watched<'a> {
     fn local(&self, _: Global, hart: u32) -> Result<Runner<'a>, OutOfMemory> {
         Ok(Runner {
             hart,
-            begun: self.steps(hart),
+            begun: self.steps_made(hart),
             steps: 0,
             watch: self.watch,
         })
     }
 
     fn refresh(&self, hart: u32, runner: &mut Runner<'a>) {
-        runner.begun = self.steps(hart);
+        runner.begun = self.steps_made(hart);
         runner.steps = 0;
     }
 
@@ -251,7 +251,7 @@ impl<'a> Core for Watched<'a> {
     fn adopt(&mut self, hart: u32, runner: &Runner<'a>) -> bool {
         self.watch.adoptions.fetch_add(1, Ordering::SeqCst);
         self.watch.hold_up();
-        if self.steps(hart) != runner.begun {
+        if self.steps_made(hart) != runner.begun {
             return false;
         }
         self.make_steps(hart, runner.steps);

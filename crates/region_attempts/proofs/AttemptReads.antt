@@ -23,12 +23,13 @@ use Rattle.recovery_semantics.specs.ElementHistories.{number_at}
 use Rattle.recovery_semantics.specs.Attempts as attempts
 use Rattle.recovery_semantics.specs.Attempts.{solo, Writes, store_ahead}
 use Rattle.recovery_semantics.specs.Configs.{Config, now, attempt_of}
+use Rattle.recovery_semantics.specs.Events.{IsGoing}
 use Rattle.recovery_semantics.proofs.Public.{held_same, solo_holders, storing, number_unstored, last_step, alone as schedules_alone}
 use Rattle.recovery_semantics.proofs.Public.{reads_are_right as resumed_reads_are_right}
 use Rattle.region_attempts.specs.GraphStates.{flow_now, flow_solo, node_of}
 use Rattle.region_attempts.specs.AttemptsInRegion.{Resumes, StaysInside}
-use Rattle.region_attempts.specs.Laws.{LiveIsRight, ReadsHere, ReadAfter, ReadsAreRight, ReadsStayRight, ReadsAreAsMade, ReadersGuard, ReadersGuardStill}
-use Rattle.region_attempts.specs.Laws.{RerunReadsNothingOverwritten}
+use Rattle.region_attempts.specs.Laws.{LiveIsRight, Reads, ReadsHere, ReadAfter, ReadsAreRight, ReadsStayRight, ReadsAreAsMade, ReadersGuard}
+use Rattle.region_attempts.specs.Laws.{ReadersGuardStill, RerunReadsNothingOverwritten, StoresFollowReads}
 use Rattle.region_attempts.proofs.StepBisimulation.{IsThere, is_there, guarded_at}
 use Rattle.region_attempts.proofs.GraphConfigs.{GraphConfig, graph_config}
 use Rattle.region_attempts.proofs.GraphRuns.{inner_runs, matched_run, alone}
@@ -76,7 +77,7 @@ module _ (x : f.Flat) (c : GraphConfig x) (t : ℕ) (one : Element) (r : ReadsHe
 
 -- ---- Where it has read
 
-module _ (x : f.Flat) (c : GraphConfig x) (t steps : ℕ) (one : Element) (r : ReadAfter x c.flow c.config t steps one) where
+module _ (x : f.Flat) (c : GraphConfig x) (t steps : ℕ) (one : Element) (r : Reads x c.flow t steps one) where
   abbrev guard : ℕ
   guard = element_lock x.variables one.variable one.element
 
@@ -91,57 +92,59 @@ module _ (x : f.Flat) (c : GraphConfig x) (t steps : ℕ) (one : Element) (r : R
       read_held x.variables guarded.names guarded.set (seen_by (flow_solo x c.flow t steps) r.graph_thread) one r.node.action guarded.guarded r.reads in
       subst (λ (z : Element). Guards x s t z.variable z.element) read.is (guarded.each read.used (flow_solo x c.flow t steps).variables read.held)
 
-  holders_along : (k : ℕ) → k ≤ (attempt_of c.config t).done → (solo c.config.kept t k).holders ≡ c.config.kept.holders
+  holders_along : (k : ℕ) → k ≤ (attempt_of c.config t).longest → (solo c.config.kept t k).holders ≡ c.config.kept.holders
   holders_along k l =
       let tried = c.invariant.tried t in
-      let within = tried.within in
-      solo_holders x t k (attempt_of c.config t).longest c.config.kept c.invariant.keeps tried.inner (omega (arith, l, within))
+      solo_holders x t k (attempt_of c.config t).longest c.config.kept c.invariant.keeps tried.inner l
 
-  pub guards_kept : Guards x c.config.kept t one.variable one.element
-  guards_kept = ap (λ (hs : List (Option ℕ)). slice_get hs guard) (sym (holders_along steps r.within)) ∙ guards_there
+  pub guards_kept : steps ≤ (attempt_of c.config t).longest → Guards x c.config.kept t one.variable one.element
+  guards_kept within = ap (λ (hs : List (Option ℕ)). slice_get hs guard) (sym (holders_along steps within)) ∙ guards_there
 
-  pub guards_now : Guards x (now c.config) t one.variable one.element
-  guards_now =
-      let n = (attempt_of c.config t).done in
-      let there : slice_get (solo c.config.kept t n).holders guard ≡ Some (Some t) =
-      ap (λ (hs : List (Option ℕ)). slice_get hs guard) (holders_along n (omega arith)) ∙ guards_kept in
-      held_same t (solo c.config.kept t n).holders (now c.config).holders guard (sym (schedules_alone x c.config t c.invariant r.going).held) there
+  module _ (done_within : steps ≤ (attempt_of c.config t).done) (going : IsGoing c.config t) where
+    within : (attempt_of c.config t).done ≤ (attempt_of c.config t).longest
+    within = let tried = c.invariant.tried t in tried.within
 
-  -- the thread has stored nothing at the node that reads, so the number is that of the state in which the step there is made
-  pub as_made : (attempt_of c.config t).done ≤ suc steps →
-      number_at (now c.config) one.variable one.element ≡ number_at (solo c.config.kept t steps) one.variable one.element
-  as_made few =
-      let n = (attempt_of c.config t).done in
-      let same = (schedules_alone x c.config t c.invariant r.going).guarded one.variable one.element guards_now in
-      let index : number_at (now c.config) one.variable one.element ≡ number_at (solo c.config.kept t n) one.variable one.element =
-      found_same (solo c.config.kept t n).variables (now c.config).variables one.variable one.element same in
-      ⊎_elim
-      (λ e. index ∙ ap (λ (k : ℕ). number_at (solo c.config.kept t k) one.variable one.element) e)
-      (λ d. let within = r.within in index ∙ after (omega (arith, d, few, within)))
-      (cases_eq n steps)
-    where
-      unstored : (th : IsThere x (solo c.config.kept t steps) t r.graph_thread r.node) (p : Pending) → store_ahead (solo c.config.kept t steps) t ≡ Some p → ⊥
-      unstored th p is =
-          let s = storing (solo c.config.kept t steps) t p is in
-          let same_thread : s.thread ≡ th.thread = let g = s.there in let h = th.there in cc in
-          let pending : th.thread.pending ≡ Some p = ap (λ (z : m.Thread). z.pending) (sym same_thread) ∙ s.pending in
-          let stores = owing_at (threads_standings x.threads) r.node.action th.thread.left th.thread.pending p pending th.does in
-          reads_nothing r.node.action (seen_by (flow_solo x c.flow t steps) r.graph_thread) one stores r.reads
+    pub guards_now : Guards x (now c.config) t one.variable one.element
+    guards_now =
+        let n = (attempt_of c.config t).done in
+        let there : slice_get (solo c.config.kept t n).holders guard ≡ Some (Some t) =
+        ap (λ (hs : List (Option ℕ)). slice_get hs guard) (holders_along n within) ∙ guards_kept (omega (arith, done_within, within)) in
+        held_same t (solo c.config.kept t n).holders (now c.config).holders guard (sym (schedules_alone x c.config t c.invariant going).held) there
 
-      after : (attempt_of c.config t).done ≡ suc steps →
-          number_at (solo c.config.kept t (attempt_of c.config t).done) one.variable one.element
-          ≡ number_at (solo c.config.kept t steps) one.variable one.element
-      after e =
-          let tried = c.invariant.tried t in
-          let within = tried.within in
-          let s = solo c.config.kept t steps in
-          let th = is_there x c.formed t (flow_solo x c.flow t steps) s (matched_run x c.formed (replicate steps t) c.flow c.config.kept c.matches)
-          r.graph_thread r.node r.found r.at in
-          let runs = inner_runs (suc steps) (attempt_of c.config t).longest c.config.kept t tried.inner (omega (arith, within, e)) in
-          let last = last_step c.config.kept t steps runs in
-          ap (λ (k : ℕ). number_at (solo c.config.kept t k) one.variable one.element) e
-          ∙ (ap (λ (z : m.State). number_at z one.variable one.element) last.after
-          ∙ number_unstored s last.next t one.variable one.element last.is (λ p is. absurd (unstored th p is)))
+    -- the thread has stored nothing at the node that reads, so the number is that of the state in which the step there is made
+    pub as_made : (attempt_of c.config t).done ≤ suc steps →
+        number_at (now c.config) one.variable one.element ≡ number_at (solo c.config.kept t steps) one.variable one.element
+    as_made few =
+        let n = (attempt_of c.config t).done in
+        let same = (schedules_alone x c.config t c.invariant going).guarded one.variable one.element guards_now in
+        let index : number_at (now c.config) one.variable one.element ≡ number_at (solo c.config.kept t n) one.variable one.element =
+        found_same (solo c.config.kept t n).variables (now c.config).variables one.variable one.element same in
+        ⊎_elim
+        (λ e. index ∙ ap (λ (k : ℕ). number_at (solo c.config.kept t k) one.variable one.element) e)
+        (λ d. index ∙ after (omega (arith, d, few, done_within)))
+        (cases_eq n steps)
+      where
+        unstored : (th : IsThere x (solo c.config.kept t steps) t r.graph_thread r.node) (p : Pending) → store_ahead (solo c.config.kept t steps) t ≡ Some p → ⊥
+        unstored th p is =
+            let s = storing (solo c.config.kept t steps) t p is in
+            let same_thread : s.thread ≡ th.thread = let g = s.there in let h = th.there in cc in
+            let pending : th.thread.pending ≡ Some p = ap (λ (z : m.Thread). z.pending) (sym same_thread) ∙ s.pending in
+            let stores = owing_at (threads_standings x.threads) r.node.action th.thread.left th.thread.pending p pending th.does in
+            reads_nothing r.node.action (seen_by (flow_solo x c.flow t steps) r.graph_thread) one stores r.reads
+
+        after : (attempt_of c.config t).done ≡ suc steps →
+            number_at (solo c.config.kept t (attempt_of c.config t).done) one.variable one.element
+            ≡ number_at (solo c.config.kept t steps) one.variable one.element
+        after e =
+            let tried = c.invariant.tried t in
+            let s = solo c.config.kept t steps in
+            let th = is_there x c.formed t (flow_solo x c.flow t steps) s (matched_run x c.formed (replicate steps t) c.flow c.config.kept c.matches)
+            r.graph_thread r.node r.found r.at in
+            let runs = inner_runs (suc steps) (attempt_of c.config t).longest c.config.kept t tried.inner (omega (arith, within, e)) in
+            let last = last_step c.config.kept t steps runs in
+            ap (λ (k : ℕ). number_at (solo c.config.kept t k) one.variable one.element) e
+            ∙ (ap (λ (z : m.State). number_at z one.variable one.element) last.after
+            ∙ number_unstored s last.next t one.variable one.element last.is (λ p is. absurd (unstored th p is)))
 
 -- ---- What an attempt writes
 
@@ -215,7 +218,6 @@ module _ (x : f.Flat) (c : GraphConfig x) (t : ℕ) (text : f.Thread) (its : sli
 
 -- an element that the thread guards is read at the node after so many of its steps
 pub record IsReadAt (x : f.Flat) (flow : FlowState) (m : Config) (t steps : ℕ) (one : Element) : Type 0 where
-  pub within : steps ≤ (attempt_of m t).done
   pub graph_thread : GraphThread
   pub found : slice_get (flow_solo x flow t steps).graph_threads t ≡ Some graph_thread
   pub node : Node
@@ -225,7 +227,6 @@ pub record IsReadAt (x : f.Flat) (flow : FlowState) (m : Config) (t steps : ℕ)
   -- in a location of the node, by what the keys of the thread's text name there
   pub lies : (text : f.Thread) → slice_get x.threads t ≡ Some text → LiesInOne (naming_of x text graph_thread.locals) node.reads one
   pub kept_guards : Guards x m.kept t one.variable one.element
-  pub now_guards : Guards x (now m) t one.variable one.element
 
 module _ (x : f.Flat) (b : Boundaries) (cuts : AreCuts (lowered x) b) (c : GraphConfig x) (t : ℕ) (stays : StaysInside x b c.flow c.config t)
     (one : Element) (p : ℕ) (r : IsReadAt x c.flow c.config t p one) where
@@ -327,13 +328,13 @@ module _ (x : f.Flat) (b : Boundaries) (cuts : AreCuts (lowered x) b) (c : Graph
       writes = s.lies.of;
     }
 
-    rewritten : (k : ℕ) (l : k < (attempt_of c.config t).longest) → done ≤ k → attempts.WritesAt c.config.kept t k one.variable one.element →
-        Writes c.config.kept t done one.variable one.element
-    rewritten k l low wr =
+    -- what is stored later was stored before the read
+    written : (k : ℕ) (l : k < (attempt_of c.config t).longest) → p ≤ k → attempts.WritesAt c.config.kept t k one.variable one.element →
+        Writes c.config.kept t p one.variable one.element
+    written k l low wr =
         let s = stores_there x c t text its k l one wr in
         let apart = not_here k l s.stores in
-        let within = r.within in
-        let later : p < k = omega (arith, low, apart, within) in
+        let later : p < k = omega (arith, low, apart) in
         let held = store_key_held x c t thread there k l (omega (arith, later)) s.stores s.lies.location s.lies.of in
         let lies = lies_along x c t thread there k (omega (arith, l)) (made_there x c t k l).graph_thread (made_there x c t k l).node (there_at x c t k l)
         s.lies.location one held s.lies.lies in
@@ -347,23 +348,32 @@ module _ (x : f.Flat) (b : Boundaries) (cuts : AreCuts (lowered x) b) (c : Graph
           writes = writes_at k l s;
           meet = common_overlaps one_naming s.lies.location read.location one (naming_apart x c t thread there) lies read_lies;
         }) start in
-        let low_q = before.before in
         record {
           before = before.earlier;
-          within = omega (arith, low_q, within);
+          within = before.before;
           at = written_there k before.earlier before.written later before.before before.writes before.is;
         }
 
-  pub right : LiveIsRight c.config one
-  right = let within = r.within in resumed_reads_are_right x c.config t one.variable one.element c.invariant r.now_guards
-      (λ k low l wr. rewritten (omega (arith, low, l, within)) k l low wr)
+  pub stored_before : (k : ℕ) (l : k < (attempt_of c.config t).longest) → p ≤ k → attempts.WritesAt c.config.kept t k one.variable one.element →
+      Writes c.config.kept t p one.variable one.element
+  stored_before k l low wr = written (omega (arith, low, l)) k l low wr
+
+  module _ (within : p ≤ done) (guards : Guards x (now c.config) t one.variable one.element) where
+    rewritten : (k : ℕ) → done ≤ k → k < (attempt_of c.config t).longest → attempts.WritesAt c.config.kept t k one.variable one.element →
+        Writes c.config.kept t done one.variable one.element
+    rewritten k low l wr =
+        let w = stored_before k l (omega (arith, low, within)) wr in
+        let sooner = w.within in
+        record { before = w.before; within = omega (arith, sooner, within); at = w.at }
+
+    pub right : LiveIsRight c.config one
+    right = resumed_reads_are_right x c.config t one.variable one.element c.invariant guards rewritten
 
 reads_are_right : ReadsAreRight
 reads_are_right x b o old schedule t one w cuts i by stays r =
     let c = graph_config x w o old schedule i by in
     let good = good_after x old.uncommitted w c.flow c.good in
     right x b cuts c t stays one (attempt_of old t).done (record {
-      within = omega arith;
       graph_thread = r.graph_thread;
       found = graph_thread_alone x c t one r;
       node = r.node;
@@ -372,36 +382,54 @@ reads_are_right x b o old schedule t one w cuts i by stays r =
       reads = r.reads;
       lies = λ text its. reads_lie_at x w (flow_now x c.flow old) good t text its r.graph_thread r.node one r.found r.at r.reads;
       kept_guards = kept_guards x c t one r;
-      now_guards = reader_guards x c t one r;
-    })
+    }) (omega arith) (reader_guards x c t one r)
 
-reads_stay_right : ReadsStayRight
-reads_stay_right x b o old schedule t steps one w cuts i by stays r =
-    let c = graph_config x w o old schedule i by in
-    let good = good_after x (replicate steps t) w c.flow c.good in
-    right x b cuts c t stays one steps (record {
-      within = r.within;
+-- after so many steps of its own
+read_there : (x : f.Flat) (c : GraphConfig x) (t steps : ℕ) (one : Element) → steps ≤ (attempt_of c.config t).longest → (r : Reads x c.flow t steps one) →
+    IsReadAt x c.flow c.config t steps one
+read_there x c t steps one within r =
+    let good = good_after x (replicate steps t) c.formed c.flow c.good in
+    record {
       graph_thread = r.graph_thread;
       found = r.found;
       node = r.node;
       at = r.at;
       seen = seen_by (flow_solo x c.flow t steps) r.graph_thread;
       reads = r.reads;
-      lies = λ text its. reads_lie_at x w (flow_solo x c.flow t steps) good t text its r.graph_thread r.node one r.found r.at r.reads;
-      kept_guards = guards_kept x c t steps one r;
-      now_guards = guards_now x c t steps one r;
-    })
+      lies = λ text its. reads_lie_at x c.formed (flow_solo x c.flow t steps) good t text its r.graph_thread r.node one r.found r.at r.reads;
+      kept_guards = guards_kept x c t steps one r within;
+    }
+
+longest_within : (x : f.Flat) (c : GraphConfig x) (t steps : ℕ) → steps ≤ (attempt_of c.config t).done → steps ≤ (attempt_of c.config t).longest
+longest_within x c t steps l = let tried = c.invariant.tried t in let within = tried.within in omega (arith, l, within)
+
+reads_stay_right : ReadsStayRight
+reads_stay_right x b o old schedule t steps one w cuts i by stays r =
+    let c = graph_config x w o old schedule i by in
+    right x b cuts c t stays one steps (read_there x c t steps one (longest_within x c t steps r.within) r.read) r.within
+    (guards_now x c t steps one r.read r.within r.going)
+
+stores_follow_reads : StoresFollowReads
+stores_follow_reads x b o old schedule t steps later one w cuts i by stays r low within wr =
+    let c = graph_config x w o old schedule i by in
+    stored_before x b cuts c t stays one steps (read_there x c t steps one (omega (arith, low, within)) r) later within low wr
 
 pub readers_guard : ReadersGuard
 readers_guard x o old schedule t one w i by r = reader_guards x (graph_config x w o old schedule i by) t one r
 
 pub readers_guard_still : ReadersGuardStill
-readers_guard_still x o old schedule t steps one w i by r = guards_now x (graph_config x w o old schedule i by) t steps one r
+readers_guard_still x o old schedule t steps one w i by r =
+    guards_now x (graph_config x w o old schedule i by) t steps one r.read r.within r.going
 
 reads_are_as_made : ReadsAreAsMade
 reads_are_as_made x b o old schedule t steps one w cuts i by stays r few =
     reads_stay_right x b o old schedule t steps one w cuts i by stays r
-    ∙ as_made x (graph_config x w o old schedule i by) t steps one r few
+    ∙ as_made x (graph_config x w o old schedule i by) t steps one r.read r.within r.going few
 
 pub rerun_reads_nothing_overwritten : RerunReadsNothingOverwritten
-rerun_reads_nothing_overwritten = record { here = reads_are_right; after = reads_stay_right; made = reads_are_as_made }
+rerun_reads_nothing_overwritten = record {
+  stored = stores_follow_reads;
+  here = reads_are_right;
+  after = reads_stay_right;
+  made = reads_are_as_made;
+}

@@ -102,11 +102,7 @@ unfolding lowered graph_step
 read_after = record {
   going = refl;
   within = omega arith;
-  graph_thread = _;
-  found = refl;
-  node = _;
-  at = refl;
-  reads = (0, omega arith, refl);
+  read = record { graph_thread = _; found = refl; node = _; at = refl; reads = (0, omega arith, refl) };
 }
 
 -- ---- How far an attempt goes

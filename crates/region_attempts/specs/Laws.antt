@@ -39,15 +39,19 @@ pub record ReadsHere (x : f.Flat) (kept : FlowState) (m : Config) (thread : ℕ)
   pub at : NodeAt (lowered x) graph_thread.at node
   pub reads : Contains (reads_of node.action (seen_by (flow_now x kept m) graph_thread)) one
 
--- the thread, whose attempt goes on, has made a step at a node that reads the element, or stands there: after so many steps
-pub record ReadAfter (x : f.Flat) (kept : FlowState) (m : Config) (thread steps : ℕ) (one : Element) : Type 0 where
-  pub going : IsGoing m thread
-  pub within : steps ≤ (attempt_of m thread).done
+-- the thread stands at a node that reads the element, after so many of its steps from what is kept
+pub record Reads (x : f.Flat) (kept : FlowState) (thread steps : ℕ) (one : Element) : Type 0 where
   pub graph_thread : GraphThread
   pub found : slice_get (flow_solo x kept thread steps).graph_threads thread ≡ Some graph_thread
   pub node : Node
   pub at : NodeAt (lowered x) graph_thread.at node
   pub reads : Contains (reads_of node.action (seen_by (flow_solo x kept thread steps) graph_thread)) one
+
+-- the thread, whose attempt goes on, has made a step at a node that reads the element, or stands there: after so many steps
+pub record ReadAfter (x : f.Flat) (kept : FlowState) (m : Config) (thread steps : ℕ) (one : Element) : Type 0 where
+  pub going : IsGoing m thread
+  pub within : steps ≤ (attempt_of m thread).done
+  pub read : Reads x kept thread steps one
 
 -- the live number of what an attempt reads is the source's: the thread guards it, and what an earlier attempt has overwritten was written before
 abbrev pub LiveIsRight : Config → Element → Type 0
@@ -71,8 +75,17 @@ ReadsAreAsMade = (x : f.Flat) (b : Boundaries) (o : Origin x) (m : Config) (sche
     ReadAfter x (flow_kept x o schedule) m thread steps one → (attempt_of m thread).done ≤ suc steps →
     live_number (history_at m.memory one.variable one.element) ≡ number_at (solo m.kept thread steps) one.variable one.element
 
+-- what an attempt stores that it has read, or reads at that step, it had stored before it read that
+abbrev pub StoresFollowReads : Type 0
+StoresFollowReads = (x : f.Flat) (b : Boundaries) (o : Origin x) (m : Config) (schedule : List ℕ) (thread steps later : ℕ) (one : Element) → IsWellFormed x →
+    AreCuts (lowered x) b → Invariant x m → IsKeptBy o.source m.kept schedule → StaysInside x b (flow_kept x o schedule) m thread →
+    Reads x (flow_kept x o schedule) thread steps one → steps ≤ later → later < (attempt_of m thread).longest →
+    WritesAt m.kept thread later one.variable one.element → Writes m.kept thread steps one.variable one.element
+
 -- The fact of regions that recovery rests on, beside those of a log: a region that is run again reads nothing that an earlier attempt has overwritten.
 pub record RerunReadsNothingOverwritten : Type 0 where
+  -- since what it overwrites it had stored before it read that
+  pub stored : StoresFollowReads
   -- at the node where the thread stands, and still after later steps
   pub here : ReadsAreRight
   pub after : ReadsStayRight

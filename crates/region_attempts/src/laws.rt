@@ -35,7 +35,7 @@ pub fn next_resumes()
 
 /// What a thread reads in an attempt that stays within its region is the source's number, whatever earlier attempts have overwritten:
 /// at the node where it stands, and still after its steps; and until it goes on from the node after that one it is the number of the
-/// state in which the step that reads it is made.
+/// state in which the step that reads it is made. An attempt stores nothing that it has read, unless it had stored that before.
 pub fn rerun_reads_nothing_overwritten()
     ensures { RerunReadsNothingOverwritten }
 {}

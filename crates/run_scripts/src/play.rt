@@ -44,21 +44,6 @@ fn times_reached<C: Core>(core: &C, hart: u32, goal: Goal) -> u64
     }
 }
 
-/// Makes so many steps of a hart.
-fn make_steps<C: Core>(core: &mut C, hart: u32, count: u64)
-    requires hart { hart < C.hart_count core.old }
-    requires room { count ≤ C.space core.old }
-    ensures opening { C.opening core.new ≡ C.opening core.old }
-    ensures history { C.history core.new ≡ C.history core.old ++ replicate count (events.Step hart) }
-    ensures room { C.space core.new + count ≡ C.space core.old }
-    ensures harts { C.hart_count core.new ≡ C.hart_count core.old }
-    ensures evictable { (line mask : ℕ) → C.evictable core.new line mask ↔ C.evictable core.old line mask }
-{
-    for _ in 0..count {
-        core.event(Event::Step(hart));
-    }
-}
-
 /// Makes steps of a hart as long as there is room above the floor, at most so many. Answers whether that many were made.
 fn play_steps<C: Core>(core: &mut C, hart: u32, count: u64, floor: u64) -> bool
     requires hart { hart < C.hart_count core.old }
@@ -72,7 +57,7 @@ fn play_steps<C: Core>(core: &mut C, hart: u32, count: u64, floor: u64) -> bool
     ensures evictable { (line mask : ℕ) → C.evictable core.new line mask ↔ C.evictable core.old line mask }
 {
     let left = core.room() - floor;
-    make_steps(core, hart, count.min(left));
+    core.steps(hart, count.min(left));
     count <= left
 }
 

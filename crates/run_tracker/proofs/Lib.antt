@@ -24,6 +24,7 @@ mod StepTotals
 mod MoreBegun
 mod LocalEvents
 mod LocalRuns
+mod RepeatedSteps
 mod LifeAfterSteps
 mod LocalInvariants
 mod Beginnings

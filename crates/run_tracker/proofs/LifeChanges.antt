@@ -22,7 +22,7 @@ use Rattle.run_tracker.specs.links.Journals.{Recorded}
 use Rattle.run_tracker.specs.links.LifeParts.{IsAmong}
 use Rattle.run_tracker.specs.links.AccountRepresentation.{AccountInv, AreOpen, AreOrdered, ends_from, weight}
 use Rattle.run_tracker.specs.links.SectionRepresentation.{AreSections}
-use Rattle.run_tracker.specs.links.SignTables.{AreTables}
+use Rattle.ido_machine.specs.links.SignTables.{AreTables}
 use Rattle.run_tracker.specs.ObjectLives.{Course, IsValidIn, world_of, steps_in, living, opening_of, sections_since}
 use Rattle.run_tracker.specs.links.EarlierLives.{lives_in}
 use Rattle.run_tracker.specs.links.LifeRepresentation.{course_of, executable_by, kept_first, opening_by, AreCounts, LifeInv}

@@ -1,5 +1,5 @@
 -- A step of a hart whose next instruction is local.
-use Rattle.std.proofs.Common.{◌≡◌, ◌⊎◌, ℕ, List, [], length, slice_get, slice_index_or, Option, Some, None, Bool}
+use Rattle.std.proofs.Common.{◌≡◌, ◌⊎◌, ℕ, List, [], length, slice_get, Option, Some, None, Bool}
 use Rattle.std.proofs.Common.{true, false, not, ◌&&◌, if◌then◌else◌, refl, ap, sym, subst, ◌∙◌, inl, inr}
 use Rattle.std.proofs.lemmas.Bool.{cases_eq}
 use Rattle.machine_events.specs.declared.event.Event.TheVariants.{Step}
@@ -16,22 +16,13 @@ use Rattle.machine_model.specs.Machine.{applied, moved, with_hart, done_if_over,
 use Rattle.machine_model.specs.Schedule.{Steps, completes, completing, has_moved, is_fence, is_mark, is_point_store, is_running}
 use Rattle.machine_model.specs.Schedule.{finishes_fence, stores_point, steps_after, with_step, with_all_kept}
 use Rattle.hart_core.specs.declared.local.LocalState.{LocalState}
-use Rattle.hart_core.specs.declared.local.LocalWrite.{LocalWrite}
-use Rattle.hart_core.specs.LocalSteps.{placed_code, after_write, continued, executed_locally, local_step}
+use Rattle.hart_core.specs.LocalSteps.{placed_code, continued, executed_locally, local_step}
 use Rattle.hart_core.proofs.Public.{found_set}
-use Rattle.ido_machine.specs.declared.machine.Machine.{Machine}
-use Rattle.ido_machine.specs.Harts.{local_state_of, with_local_state, GoesLocally}
-use Rattle.ido_machine.specs.Machines.{RepresentsMachine, IsAfter}
-use Rattle.run_tracker.specs.declared.counts.Counts.{Counts}
-use Rattle.run_tracker.specs.declared.signs.Sign.{Sign}
-use Rattle.run_tracker.specs.declared.signs.SignTable.{SignTable}
+use Rattle.ido_machine.specs.Harts.{local_state_of, with_local_state}
 use Rattle.run_tracker.specs.links.AccountRepresentation.{AreOpen, point_word}
-use Rattle.run_tracker.specs.links.LifeParts.{HaveCounted}
-use Rattle.run_tracker.specs.links.SignTables.{AreTables, sign_at}
 use Rattle.run_tracker.proofs.Events.{begun_if, noted_is}
-use Rattle.run_tracker.proofs.EventCounts.{completes-other, counted-none}
-use Rattle.run_tracker.proofs.LocalInvariants.{some_slot}
-use Rattle.run_tracker.proofs.SignObservations.{completes_one, mark_tells, one_moved, passes_one, slot_tells}
+use Rattle.run_tracker.proofs.EventCounts.{completes-other}
+use Rattle.run_tracker.proofs.SignObservations.{completes_one, one_moved, passes_one, slot_tells}
 use Rattle.run_tracker.proofs.StepsStayOpen.{all_kept_none, open-noted}
 
 -- a hart that holds the same locks as before isn't over
@@ -133,32 +124,3 @@ module _ (program : List (List Slot)) (w : World) (h : ℕ) (hart : Hart) (s : L
         ∙ ap (with_all_kept w.log w.words (length steps.harts)) with_step-is
         ∙ all_kept_none w.log w.words (length steps.harts) (begun_if (is_mark marks h hart.pc) h steps)
         (open-noted w.log w.words w.words (is_mark marks h hart.pc) false h 0 steps (λ e. cc) (λ j. refl) is_open)
-
--- ---- What a tracker has after it
-
-module _ (program : List (List Slot)) (w : World) (h : ℕ) (hart : Hart) (write : LocalWrite) (there : slice_get w.harts h ≡ Some hart)
-    (goes : GoesLocally program h hart write) where
-  abbrev next : LocalState
-  next = after_write write hart.registers
-
-  pub local_counts : (counts : Counts) → HaveCounted counts counts program w (Step h)
-  local_counts counts = record {
-    points = counted-none counts.points.items (λ g. stores_point program w (Step h) g) (no_point program w h hart next there goes.running goes.local);
-    fences = counted-none counts.fences.items (λ g. finishes_fence program w (Step h) g) (no_fence program w h hart next there goes.running goes.local);
-  }
-
-  pub local_end : (machine : Machine) → RepresentsMachine machine (with_hart w h (with_local_state hart next)) →
-      IsAfter machine Moved (happens program w (Step h))
-  local_end machine stands = record {
-    replied = sym (reply_is program w h hart next there goes.running goes.local);
-    stands = subst (RepresentsMachine machine) (sym (world_is program w h hart next there goes.running goes.local)) stands;
-  }
-
-  pub local_steps : (marks : List (List ℕ)) (tables : List SignTable) (table : SignTable) (sign : Sign) (steps : Steps) → AreTables tables program marks →
-      slice_get tables h ≡ Some table → sign ≡ sign_at table hart.pc → AreOpen w.log w.words steps →
-      steps_after marks program w (Step h) steps ≡ begun_if sign.mark h steps
-  local_steps marks tables table sign steps are found is is_open =
-      let slot = some_slot (placed_code program h) (local_state_of hart) next goes.local in
-      let mark : sign.mark ≡ is_mark marks h hart.pc =
-      ap (λ (x : Sign). x.mark) is ∙ mark_tells program h hart.pc slot.0 slot.1 table (slice_index_or marks h []) (are.each h table found) in
-      steps_are program w h hart next there goes.running goes.local marks steps is_open ∙ ap (λ (b : Bool). begun_if b h steps) (sym mark)

@@ -1,5 +1,5 @@
 -- What stands of a local run as it goes ahead, and where a life adopts it.
-use Rattle.std.proofs.Common.{◌≡◌, ℕ, suc, ◌+◌, ◌≤◌, List, Option}
+use Rattle.std.proofs.Common.{◌≡◌, ℕ, zero, suc, ◌+◌, ◌≤◌, List, Option}
 use Rattle.std.proofs.Common.{Some, None, Bool, true, false, cond, ◌==◌, refl, ap, sym, subst, ◌∙◌, arith}
 use Rattle.std.specs.List.{list_any}
 use Rattle.rv64_isa.specs.declared.object.Slot.{Slot}
@@ -11,12 +11,14 @@ use Rattle.hart_core.specs.declared.local.LocalState.{LocalState}
 use Rattle.hart_core.specs.LocalSteps.{PlacedCode, executed_locally, fetched_in, local_run, local_step, then_locally}
 use Rattle.ido_machine.specs.Harts.{local_state_of}
 use Rattle.run_tracker.specs.declared.local.LocalRun.TheInside.{Inside}
-use Rattle.run_tracker.specs.declared.signs.Entry.{Entry}
-use Rattle.run_tracker.specs.declared.signs.SignTable.{SignTable}
+use Rattle.ido_machine.specs.declared.signs.Entry.{Entry}
+use Rattle.ido_machine.specs.declared.signs.SignTable.{SignTable}
+use Rattle.ido_machine.specs.links.LocalRuns.{mark_at, signs_passed}
+use Rattle.run_tracker.proofs.LocalRuns.{instruction_before}
 use Rattle.run_tracker.specs.LocalRuns.{LocalCourse, IsAtBeginning, state_in}
 use Rattle.run_tracker.specs.links.LocalRepresentation.{LocalInv, marks_at, marks_passed}
-use Rattle.run_tracker.specs.links.SignTables.{IsTableOf, is_plain, placed_in, sign_at, sign_in, slots_in}
-use Rattle.run_tracker.proofs.SignObservations.{word_mark}
+use Rattle.ido_machine.specs.links.SignTables.{IsTableOf, is_plain, placed_in, sign_at, sign_in, slots_in}
+use Rattle.ido_machine.proofs.Public.{word_mark}
 
 pub running_phase : (phase : Phase) → is_running phase ≡ true → phase ≡ Run
 running_phase Run e = refl
@@ -60,6 +62,22 @@ goes_on run state mark passed stands step mark_is passed_is running =
     few : (b : Bool) → passed ≡ run.passed + cond b 1 0 → passed ≤ run.made + 1
     few true e = omega (arith, e, stands.few)
     few false e = omega (arith, e, stands.few)
+
+-- the signs tell how many marks are passed
+pub signs_are : (table : SignTable) (addresses : List ℕ) → IsTableOf table table.start (slots_in table.entries.items) addresses →
+    (first : LocalState) (n : ℕ) (last : LocalState) → local_run (placed_in table) first n ≡ Some last →
+    signs_passed table first n ≡ marks_passed addresses (placed_in table) first n
+signs_are table addresses is first zero last run = refl
+signs_are table addresses is first (suc n) last run =
+    let code : PlacedCode = placed_in table in
+    let before = instruction_before code first n last run in
+    let slot = some_slot code before.0 last before.2 in
+    let tells : (sign_at table before.0.pc).mark ≡ list_any (λ m. m == before.0.pc) addresses =
+    word_mark code before.0.pc slot.0 slot.1 table addresses is in
+    ap (λ (k : ℕ). k + mark_at table (local_run code first n)) (signs_are table addresses is first n before.0 before.1)
+    ∙ ap (λ (found : Option LocalState). marks_passed addresses code first n + mark_at table found) before.1
+    ∙ ap (λ (b : Bool). marks_passed addresses code first n + cond b 1 0) tells
+    ∙ ap (λ (found : Option LocalState). marks_passed addresses code first n + marks_at addresses found) (sym before.1)
 
 -- a table of the same code words
 pub copied : (old new : SignTable) (start : ℕ) (code : List Slot) (addresses : List ℕ) → new.start ≡ old.start → new.entries.items ≡ old.entries.items →

@@ -14,10 +14,10 @@ use Rattle.machine_model.specs.Schedule.{Steps, completes, completing, has_moved
 use Rattle.machine_model.specs.Schedule.{passes_mark, stores_point, finishes_fence, steps_after, with_step, with_all_kept}
 use Rattle.ido_machine.specs.declared.machine.Machine.{Machine}
 use Rattle.run_tracker.specs.declared.counts.Counts.{Counts}
-use Rattle.run_tracker.specs.declared.signs.Sign.{Sign}
+use Rattle.ido_machine.specs.declared.signs.Sign.{Sign}
 use Rattle.run_tracker.specs.declared.stepping.Observation.{Observation}
 use Rattle.run_tracker.specs.links.AccountRepresentation.{AreOpen, point_word}
-use Rattle.run_tracker.specs.links.SignTables.{is_plain, IsTableOf}
+use Rattle.ido_machine.specs.links.SignTables.{is_plain, IsTableOf}
 use Rattle.run_tracker.specs.links.LifeParts.{is_drained, seen_step, HasStepped, HaveCounted}
 use Rattle.run_tracker.proofs.EventCounts.{completes-other, counted-none}
 use Rattle.run_tracker.proofs.DurableWordsStay.{undrained}
@@ -141,14 +141,8 @@ module _ (program : List (List Slot)) (marks : List (List ℕ)) (machine : Machi
         ∙ stores_none w.log h stepped.seen.hart some_slot.0 (sym (ap (λ (x : Sign). x.store) stepped.seen.sign ∙ tells) ∙ e)
 
     -- the newest value of the point stands there
-    pub position_is : (position : ℕ) (store : Bool) → store ≡ observation.sign.store →
-        (store ≡ true → position ≡ last_position (word_at next.words (point_word next.log h))) →
-        (store ≡ false → position ≡ observation.position) → position ≡ last_in next
-    position_is position true is stored unstored =
-        stored refl ∙ ap (λ (l : Log). last_position (word_at next.words (point_word l h))) stepped.log
-    position_is position false is stored unstored =
-        let more = grown h w stepped.seen.point some_value program stepped.seen.hart stepped.seen.found (running_is true running) (moved_is true moves) in
-        omega (arith, unstored refl, stepped.seen.position, more ∙ ap (λ (b : Bool). last_in w + cond b 1 0) (no_point (sym is)))
+    pub position_is : (position : ℕ) → position ≡ last_position (word_at next.words (point_word next.log h)) → position ≡ last_in next
+    position_is position is = is ∙ ap (λ (l : Log). last_position (word_at next.words (point_word l h))) stepped.log
 
     -- a plain word changes nothing that is accounted for
     module _ (plain : observation.sign.plain ≡ true) where
@@ -182,8 +176,21 @@ module _ (program : List (List Slot)) (marks : List (List ℕ)) (machine : Machi
               by_place (inl same) = subst (λ (k : ℕ). completes (test k) program w (Step h) k ≡ false) (sym same) none
               by_place (inr ne) = completes-other (test g) program w h g ne
 
-    pub point_is : (position : ℕ) → position ≡ last_in next → not (position == observation.position) ≡ stores_point program w (Step h) h
-    point_is position e =
+    pub point_is : (position : ℕ) (store : Bool) → store ≡ observation.sign.store → (store ≡ true → position ≡ last_in next) →
+        (store ≡ false → position ≡ 0) → not (position == observation.position) ≡ stores_point program w (Step h) h
+    point_is position true is stored unstored =
         let more = grown h w stepped.seen.point some_value program stepped.seen.hart stepped.seen.found (running_is true running) (moved_is true moves) in
         differs observation.position position (stores_point program w (Step h) h)
-        (e ∙ more ∙ ap (λ (n : ℕ). n + cond (stores_point program w (Step h) h) 1 0) (sym stepped.seen.position))
+        (stored refl ∙ more ∙ ap (λ (n : ℕ). n + cond (stores_point program w (Step h) h) 1 0) (sym (stepped.seen.position (sym is))))
+    point_is position false is stored unstored =
+        ap (λ (n : ℕ). not (n == observation.position)) (unstored refl) ∙ ap (λ (n : ℕ). not (0 == n)) (stepped.seen.unstored (sym is))
+        ∙ sym (no_point (sym is))
+
+    -- what was noted is what the step does
+    pub steps_are : (s : Steps) (mark point : Bool) (position : ℕ) (store : Bool) → store ≡ observation.sign.store → mark ≡ passes_mark marks program w h →
+        point ≡ stores_point program w (Step h) h → (store ≡ true → position ≡ last_in next) → noted mark point h position s ≡ with_step marks program w h s
+    steps_are s mark point position true is mark_is point_is stored = noted_is marks program w h s mark point position mark_is point_is (stored refl)
+    steps_are s mark point position false is mark_is point_is stored =
+        let none : point ≡ false = point_is ∙ no_point (sym is) in
+        ap (λ (b : Bool). noted mark b h position s) none ∙ ap (λ (b : Bool). noted mark b h (last_in next) s) (sym none)
+        ∙ noted_is marks program w h s mark point (last_in next) mark_is point_is refl

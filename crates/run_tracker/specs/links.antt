@@ -3,6 +3,5 @@ pub mod EarlierLives
 pub mod SectionRepresentation
 pub mod LifeRepresentation
 pub mod Journals
-pub mod SignTables
 pub mod LifeParts
 pub mod LocalRepresentation

@@ -8,7 +8,7 @@ mod earlier;
 mod journal;
 pub mod life;
 pub mod local;
+mod marks;
 mod points;
 mod sections;
-mod signs;
 mod stepping;

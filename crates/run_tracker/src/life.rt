@@ -5,6 +5,7 @@ ghost use Rattle.std.specs.Bool.{OnTrue};
 ghost use Rattle.std.specs.Vec.{vec_capacity, vec_len};
 ghost use Rattle.ido_base.specs.Words.{word_at, live_value, durable_value};
 ghost use Rattle.log_schemes.specs.Layout.{line_count, log_words};
+ghost use Rattle.machine_events.specs.declared.event.Event.TheVariants.{Step};
 ghost use Rattle.machine_events.specs.Cores.{point_stores, finished_fences, least_enabled, EachMoves};
 ghost use Rattle.machine_model.specs.Machine.{Hart, World, can_start, has_stopped, have_stopped, reply_to};
 ghost use Rattle.log_schemes.specs.Schemes.{numbers_from};
@@ -27,13 +28,14 @@ use crate::counts::Counts;
 use crate::earlier::{account_after, copies_of, ends_of};
 use crate::journal::Journal;
 use crate::local::LocalRun;
+use crate::marks::copy_of;
 use crate::points::{durable_point, live_point};
 use crate::sections::Sections;
-use crate::signs::{SignTable, copy_of, tables_of};
 use crate::stepping::make;
 use ido_base::limits::VARIABLE_WORDS;
 use ido_base::memory::OutOfMemory;
 use ido_machine::machine::Machine;
+use ido_machine::signs::{SignTable, tables_of};
 use machine_events::event::{Event, Reply};
 use machine_events::machine::Core;
 use machine_model::object::Object;
@@ -407,9 +409,9 @@ impl Life {
         Ok(words)
     }
 
-    /// Makes an event.
+    /// Makes an event, whatever it touches.
     #[inline(always)]
-    pub fn event(&mut self, event: Event) -> Reply
+    fn event_apart(&mut self, event: Event) -> Reply
         requires valid { IsValidIn self.old event }
         requires room { length self.old.journal < self.old.cap }
         ensures reply { result ≡ reply_to self.old.runs.program (world_of self.old) event }
@@ -427,6 +429,70 @@ impl Life {
         );
         self.sections.look_if(may_persist(reply), &self.machine);
         reply
+    }
+
+    /// Makes steps of a hart as long as it executes instructions and these touch nothing but its registers and its pc, at most so many.
+    /// Answers how many.
+    #[inline(always)]
+    fn run_locally(&mut self, hart: u32, most: u32) -> u32
+        requires exists { hart < length self.old.runs.program }
+        requires room { most ≤ self.old.cap - length self.old.journal }
+        ensures most { result ≤ most }
+        ensures life { self.new ≡ with_steps self.old hart result }
+        ensures moves { EachMoves living (opening_of self.old) self.old.journal hart result }
+    {
+        let ran = self
+            .machine
+            .run_locally(hart, &self.tables[hart as usize], most);
+        self.journal.push_steps(hart, ran.made);
+        self.account.begin_more(hart, ran.passed);
+        ran.made
+    }
+
+    /// A step of a hart: what `event` does for it.
+    #[inline(always)]
+    fn step(&mut self, hart: u32) -> Reply
+        requires exists { hart < length self.old.runs.program }
+        requires room { length self.old.journal < self.old.cap }
+        ensures reply { result ≡ reply_to self.old.runs.program (world_of self.old) (Step hart) }
+        ensures life { self.new ≡ with_event self.old (Step hart) }
+    {
+        let made = self.run_locally(hart, 1);
+        if made == 1 {
+            return Reply::Moved;
+        }
+        self.event_apart(Event::Step(hart))
+    }
+
+    /// Makes an event.
+    #[inline(always)]
+    pub fn event(&mut self, event: Event) -> Reply
+        requires valid { IsValidIn self.old event }
+        requires room { length self.old.journal < self.old.cap }
+        ensures reply { result ≡ reply_to self.old.runs.program (world_of self.old) event }
+        ensures life { self.new ≡ with_event self.old event }
+    {
+        match event {
+            Event::Step(hart) => self.step(hart),
+            Event::Evict { .. } | Event::Crash | Event::Start => self.event_apart(event),
+        }
+    }
+
+    /// Makes so many steps of a hart: it does what as many events do.
+    pub fn steps(&mut self, hart: u32, count: u64)
+        requires exists { hart < length self.old.runs.program }
+        requires room { count ≤ self.old.cap - length self.old.journal }
+        ensures { self.new ≡ with_steps self.old hart count }
+    {
+        let mut left = count;
+        while left > 0 {
+            let most = left.min(u64::from(u32::MAX)) as u32;
+            left -= u64::from(self.run_locally(hart, most));
+            if left > 0 {
+                self.event_apart(Event::Step(hart));
+                left -= 1;
+            }
+        }
     }
 
     /// Each hart has stopped between sections, so that another life may begin.
@@ -566,6 +632,10 @@ impl Core for Life {
     #[inline(always)]
     fn event(&mut self, event: Event) -> Reply {
         Life::event(self, event)
+    }
+
+    fn steps(&mut self, hart: u32, count: u64) {
+        Life::steps(self, hart, count);
     }
 
     fn room(&self) -> u64 {

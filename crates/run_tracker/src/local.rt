@@ -3,11 +3,11 @@ ghost use Rattle.std.specs.Prelude.{◌≡◌, ◌<◌, ◌≤◌, Some, if◌th
 ghost use Rattle.machine_model.specs.declared.phase.Phase.TheVariants.{Run};
 ghost use Rattle.run_tracker.specs.LocalRuns.{LocalCourse, goes_ahead, one_ahead, state_in};
 ghost use Rattle.run_tracker.specs.links.LocalRepresentation.{marks_passed};
-ghost use Rattle.run_tracker.specs.links.SignTables.{placed_in, slots_in, IsTableOf};
+ghost use Rattle.ido_machine.specs.links.SignTables.{placed_in, slots_in, IsTableOf};
 
-use crate::signs::SignTable;
 use crate::stepping::is_running;
 use hart_core::local::LocalState;
+use ido_machine::signs::SignTable;
 use machine_model::phase::Phase;
 use std::marker::Model;
 

@@ -7,29 +7,24 @@ ghost use Rattle.machine_events.specs.declared.event.Reply.TheVariants.{Moved};
 ghost use Rattle.log_schemes.specs.Layout.{line_count};
 ghost use Rattle.ido_base.specs.Words.{word_at, last_position};
 ghost use Rattle.rv64_isa.specs.declared.object.Slot.{Slot};
-ghost use Rattle.machine_model.specs.declared.phase.Phase.TheVariants.{Run};
 ghost use Rattle.machine_model.specs.Machine.{Hart, World, IsValidAt, can_start, happens};
 ghost use Rattle.machine_model.specs.Schedule.{Steps, hart_steps, is_running, with_step, steps_after, with_all_kept, with_kept};
-ghost use Rattle.hart_core.specs.LocalSteps.{local_step, placed_code};
-ghost use Rattle.ido_machine.specs.Harts.{local_state_of, GoesLocally};
 ghost use Rattle.ido_machine.specs.Machines.{RepresentsMachine, IsAfter, program_in, log_by, events_of};
 ghost use Rattle.run_tracker.specs.links.AccountRepresentation.{AccountInv, AllFrom, AreOpen, point_word};
 ghost use Rattle.run_tracker.specs.links.SectionRepresentation.{AreAbove, AreSeen, section_at};
-ghost use Rattle.run_tracker.specs.links.SignTables.{AreTables, sign_at};
+ghost use Rattle.ido_machine.specs.links.SignTables.{AreTables, sign_at};
 ghost use Rattle.run_tracker.specs.links.LifeParts.{IsAmong, IsSeen, IsNextEntry, seen_step, HasStepped, WasTracked, IsTrackerReady, HasSteps, HasCounts};
 ghost use Rattle.run_tracker.specs.links.LifeParts.{HaveCounted};
-ghost use Rattle.run_tracker.specs.declared.signs.SignTable.{SignTable};
+ghost use Rattle.ido_machine.specs.declared.signs.SignTable.{SignTable};
 
 use crate::account::Account;
 use crate::counts::Counts;
 use crate::points::{point_durable, point_position};
 use crate::sections::Sections;
-use crate::signs::{Entry, Sign, SignTable, sign_of};
-use hart_core::local::LocalWrite;
 use ido_machine::machine::Machine;
+use ido_machine::signs::{Entry, Sign, SignTable, sign_of, slot_at};
 use machine_events::event::{Event, Reply};
 use machine_model::phase::Phase;
-use rv64_isa::object::Slot;
 
 /// What is seen of a hart before its step.
 #[derive(Clone, Copy, Drop)]
@@ -38,7 +33,7 @@ pub(crate) struct Observation {
     pub running: bool,
     /// What is told of the code word that stands at its pc.
     pub sign: Sign,
-    /// Where the newest value of its point stands among those that the point's word has had.
+    /// Where that word stores: where the newest value of the hart's point stands among those that the point's word has had. Else 0.
     pub position: u64,
 }
 
@@ -48,6 +43,20 @@ pub(crate) fn is_running(phase: Phase) -> bool
     ensures { result ≡ is_running phase }
 {
     matches!(phase, Phase::Run)
+}
+
+/// Where the newest value of a hart's point stands, if that is asked for; else 0.
+#[inline(always)]
+fn position_if(asked: bool, machine: &Machine, hart: u32) -> u64
+    requires { hart < length (program_in machine.now) }
+    ensures asked { asked ≡ true → (w : World) → RepresentsMachine machine.now w → result ≡ last_position (word_at w.words (point_word w.log hart)) }
+    ensures unasked { asked ≡ false → result ≡ 0 }
+{
+    if asked {
+        point_position(machine, hart)
+    } else {
+        0
+    }
 }
 
 /// What is seen of a hart at whose pc a code word with this sign stands.
@@ -60,7 +69,7 @@ fn look(machine: &Machine, hart: u32, sign: Sign) -> Observation
     Observation {
         running: is_running(machine.phase(hart)),
         sign,
-        position: point_position(machine, hart),
+        position: position_if(sign.store, machine, hart),
     }
 }
 
@@ -101,22 +110,6 @@ fn keep_all(machine: &Machine, account: &mut Account, sections: &Sections)
     }
 }
 
-/// Where the newest value of a hart's point stands after an instruction before which that was seen: where it doesn't store, the point
-/// has no newer value.
-#[inline(always)]
-fn position_after(machine: &Machine, hart: u32, observation: Observation) -> u64
-    requires { hart < length (program_in machine.now) }
-    ensures stored { observation.sign.store ≡ true → (w : World) → RepresentsMachine machine.now w
-        → result ≡ last_position (word_at w.words (point_word w.log hart)) }
-    ensures unstored { observation.sign.store ≡ false → result ≡ observation.position }
-{
-    if observation.sign.store {
-        point_position(machine, hart)
-    } else {
-        observation.position
-    }
-}
-
 /// A hart of which this was seen has completed an instruction. Where that is a mark a step of the source is begun, and where
 /// it stored the point, the steps begun so far are bound to that. None is durable yet.
 #[inline(always)]
@@ -145,7 +138,7 @@ fn complete(
     if observation.sign.plain {
         return;
     }
-    let position = position_after(machine, hart, observation);
+    let position = position_if(observation.sign.store, machine, hart);
     let point = position != observation.position;
     account.begin_if(observation.sign.mark, hart);
     account.bind_if(point, hart, position);
@@ -200,27 +193,7 @@ fn next_entry(machine: &Machine, tables: &[SignTable], hart: u32) -> Option<Entr
     tables[hart as usize].entry_at(machine.pc(hart))
 }
 
-/// What the next step of a hart writes, at whose pc this stands: where that touches nothing but registers and pc.
-#[inline(always)]
-fn local_write(machine: &Machine, hart: u32, next: &Option<Entry>) -> Option<LocalWrite>
-    requires { hart < length (program_in machine.now) }
-    ensures some { (tables : List SignTable) (marks : List (List ℕ)) (w : World) (model : Hart) → AreTables tables (program_in machine.now) marks
-        → IsNextEntry w hart tables next.now → RepresentsMachine machine.now w → slice_get w.harts hart ≡ Some model
-        → IfSome result (λ write. GoesLocally (program_in machine.now) hart model write) }
-    ensures none { (tables : List SignTable) (marks : List (List ℕ)) (w : World) (model : Hart) → AreTables tables (program_in machine.now) marks
-        → IsNextEntry w hart tables next.now → RepresentsMachine machine.now w → slice_get w.harts hart ≡ Some model
-        → IfNone result (model.phase ≡ Run → local_step (placed_code (program_in machine.now) hart) (local_state_of model) ≡ None) }
-{
-    match next {
-        None => None,
-        Some(entry) => match entry.slot {
-            Slot::NoRow(_) => None,
-            Slot::Row(instr) => machine.local_write(hart, instr),
-        },
-    }
-}
-
-/// A step of a hart. One that touches nothing but its registers and its pc is made at once.
+/// A step of a hart.
 #[inline(always)]
 fn step(
     machine: &mut Machine,
@@ -251,14 +224,8 @@ fn step(
     ensures capacity { vec_capacity account.new.kept ≡ vec_capacity account.old.kept }
 {
     let next = next_entry(machine, tables, hart);
-    let sign = sign_of(&next);
-    if let Some(write) = local_write(machine, hart, &next) {
-        machine.step_locally(hart, write);
-        account.begin_if(sign.mark, hart);
-        return Reply::Moved;
-    }
-    let observation = look(machine, hart, sign);
-    let reply = machine.step(hart);
+    let observation = look(machine, hart, sign_of(&next));
+    let reply = machine.execute(hart, slot_at(&next));
     note(machine, account, counts, sections, observation, reply, hart);
     reply
 }

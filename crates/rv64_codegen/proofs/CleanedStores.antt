@@ -32,7 +32,8 @@ more b xs ys c none = record {
   after = c.after ++ ys;
   split = ap (λ (zs : List CodeItem). zs ++ ys) c.split ∙ append_assoc c.before (map Instruction c.code ++ c.after) ys
       ∙ ap (λ (zs : List CodeItem). c.before ++ zs) (append_assoc (map Instruction c.code) c.after ys);
-  does = c.does;
+  is_code = c.is_code;
+  quiet = c.quiet;
   none_before = c.none_before;
   none_after = let a = c.none_after in omega (arith, a, none, cleans_append c.after ys);
 }

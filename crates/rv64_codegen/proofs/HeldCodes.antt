@@ -7,8 +7,6 @@ use Rattle.std.specs.List.{AllByRecursion, AllZip}
 use Rattle.std.proofs.lemmas.List.{length-append, length-map}
 use Rattle.std.proofs.lemmas.Option.{none-some, same_Some}
 use Rattle.log_schemes.specs.Layout.{bank_bytes, log_of}
-use Rattle.ido_base.specs.Locks.{locks_in}
-use Rattle.log_schemes.specs.declared.log.Log.{Log}
 use Rattle.log_schemes.specs.declared.keeping.Keeping.{Keeping}
 use Rattle.log_schemes.specs.declared.keeping.Keeping.TheVariants.{Masked, Listed}
 use Rattle.log_schemes.proofs.Public.{size_holds}
@@ -23,13 +21,12 @@ use Rattle.rv64_isa.specs.declared.instr.Instr.TheVariants.{Op, OpImmediate}
 use Rattle.rv64_isa.specs.declared.instr.ImmediateOperation.TheVariants.{Addi}
 use Rattle.rv64_isa.specs.declared.instr.Operation.TheVariants.{Add}
 use Rattle.operator_code.specs.StraightLineCode.{IsConstant}
-use Rattle.boundary_code.specs.Boundaries.{fixed_words, lists_of, number_words, words_beside, words_for}
+use Rattle.boundary_code.specs.Boundaries.{fixed_words, listed_locks, lists_of, number_words, words_beside, words_for}
 use Rattle.log_schemes.specs.Schemes.{HasRoom, HaveRoom, keeping_of, size_of}
 use Rattle.expr_code.specs.EvaluationCode.{Homes, impure_among}
 use Rattle.expr_code.proofs.Public.{among_append, constant_none}
 use Rattle.node_code.specs.BoundaryCode.{IsQuiet}
-use Rattle.node_code.specs.Numbers.{LeaveAs, LeaveLocks, LeaveNumbers}
-use Rattle.node_code.specs.Pieces.{MayKeep, MayKeepAs}
+use Rattle.node_code.specs.Numbers.{LeaveLocks, LeaveNumbers}
 use Rattle.thread_code.specs.Plans.{Plan, IsPlan, Thread, IsThread, IsNodeOf, held_names_before, homes, locks_before, names_in, words_held}
 use Rattle.rv64_codegen.specs.ThreadPieces.{MayEnter, boundary_words}
 use Rattle.rv64_codegen.specs.links.NumberedNames.{IsNumberedMore}
@@ -156,18 +153,20 @@ module _ (p : Plan) (t : Thread) (plan : IsPlan p) (th : IsThread p t) (formed :
   numbers_many : (locals : List ℤ) → length (locks_before p t locals node) ≡ length held
   numbers_many locals = length-map held (lock_number locals)
 
-  keep_as : (k : Keeping) (mask : ℕ) → (k ≡ Masked → (locals : List ℤ) → locks_in mask ≡ locks_before p t locals node) →
-      AreCodesAs k p.log h t.number held codes → (locals : List ℤ) → MayKeepAs k mask codes (locks_before p t locals node)
-  keep_as Masked mask in_it are locals = sym (in_it refl locals)
-  keep_as Listed mask in_it are locals = numbers_many locals ∙ sym (as_many h are.0 held codes are.3)
+  -- a log that keeps a mask needs none
+  pub masked_none : keeping_of p.log ≡ Masked → AreNumberCodes p.log h t.number held codes → codes ≡ []
+  masked_none masks are = subst (λ (k : Keeping). AreCodesAs k p.log h t.number held codes) masks are
 
-  pub may_keep : (mask : ℕ) → (keeping_of p.log ≡ Masked → (locals : List ℤ) → locks_in mask ≡ locks_before p t locals node) →
-      AreNumberCodes p.log h t.number held codes → (locals : List ℤ) → MayKeep p.log mask codes (locks_before p t locals node)
-  may_keep mask in_it are locals = keep_as (keeping_of p.log) mask in_it are locals
+  -- there is one for each lock that is listed
+  pub listed_many : keeping_of p.log ≡ Listed → AreNumberCodes p.log h t.number held codes → (locals : List ℤ) →
+      length (locks_before p t locals node) ≡ length codes
+  listed_many lists are locals =
+      let by : AreCodesAs Listed p.log h t.number held codes = subst (λ (k : Keeping). AreCodesAs k p.log h t.number held codes) lists are in
+      numbers_many locals ∙ sym (as_many h by.0 held codes by.3)
 
   leave_as : (k : Keeping) → AreCodesAs k p.log h t.number held codes → (locals : List ℤ) (x : List ℕ) → MayEnter p t locals node x →
-      LeaveAs k p.log t.number (locks_before p t locals node) codes x
-  leave_as Masked are locals x may = tt
+      LeaveNumbers p.log t.number x (listed_locks k (locks_before p t locals node)) codes
+  leave_as Masked are locals x may = subst (λ (cs : List (List Instr)). LeaveNumbers p.log t.number x [] cs) (sym are) tt
   leave_as Listed are locals x may =
       let low = thread_below p plan t th in
       let reach : (bank : ℕ) → bank < 2 → log_of p.log t.number + bank_bytes p.log * bank < 2 ^ 32 = λ bank below. base_small p.log t.number bank low below in

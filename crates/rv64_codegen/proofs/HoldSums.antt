@@ -298,7 +298,8 @@ module _ (p : Plan) (t : Thread) where
         (all_before (thread_sets names th.text) t.part.first (λ k h there. at_step k h
         (subst (λ (ns : List e.LockName). slice_get (thread_sets ns th.text) k ≡ Some h) (sym its_names) there)))
 
-    costs_few : (k : Keeping) → costs_as k (thread_nodes (table_of p.flat th.text) th.text t.part.first) t.part.first ≤ full_price (language_kept k) p.flat th.text
+    costs_few : (k : Keeping) →
+        costs_as k (thread_nodes (table_of p.flat th.text) th.text t.part.first) t.part.first ≤ full_price (language_kept k) p.flat th.text
     costs_few Masked =
         let ns : List Node = thread_nodes (table_of p.flat th.text) th.text t.part.first in
         omega (arith, costs_plain ns t.part.first, price_thread (table_of p.flat th.text) th.text t.part.first)

@@ -5,7 +5,7 @@ ghost use Rattle.boundary_code.specs.Boundaries.{lists_of};
 ghost use Rattle.log_schemes.specs.declared.keeping.Keeping.TheVariants.{Listed, Masked};
 ghost use Rattle.log_schemes.specs.Schemes.{keeping_of};
 ghost use Rattle.thread_code.specs.Plans.{set_before};
-ghost use Rattle.rv64_codegen.specs.links.Threads.{IsOwn, IsKeptFor, AreNumbersOf, plan_in, thread_of};
+ghost use Rattle.rv64_codegen.specs.links.Threads.{IsOwn, IsKeptFor, AreLocksAt, AreNumbersOf, plan_in, thread_of};
 
 use crate::numbers::held_numbers;
 use crate::plan::Plan;
@@ -16,7 +16,7 @@ use ido_base::memory::OutOfMemory;
 use lock_discipline::mask_of;
 use log_schemes::addresses::log_of;
 use log_schemes::keeping::Keeping;
-use node_code::Kept;
+use node_code::{Kept, KeptLocks};
 use operator_code::constant::constant;
 use rv64_isa::field::Register;
 use rv64_isa::instr::Instr;
@@ -73,18 +73,25 @@ impl ThreadPlan<'_, '_> {
         }
     }
 
-    /// The mutexes that are held at a node, bit i for mutex i, where the log keeps a mask; 0 where it lists locks.
+    /// The mutexes that are held at a node, bit i for mutex i.
     fn mask(&self, node: usize) -> u64
-        requires { IsOwn self.now node }
-        ensures masks { keeping_of (plan_in self.now).log ≡ Masked → result ≡ mask_of (set_before (plan_in self.now) (thread_of self.now) node) }
-        ensures lists { keeping_of (plan_in self.now).log ≡ Listed → result ≡ 0 }
+        requires own { IsOwn self.now node }
+        requires keeping { keeping_of (plan_in self.now).log ≡ Masked }
+        ensures { result ≡ mask_of (set_before (plan_in self.now) (thread_of self.now) node) }
+    {
+        let step = node - self.part.first;
+        mask_of(self.plan.held.before(self.number, step as u32))
+    }
+
+    /// The locks that are held at a node, as the log keeps them. Where it lists locks, these are the codes of their numbers.
+    fn locks<'k>(&self, node: usize, numbers: &'k [Vec<Instr>]) -> KeptLocks<'k>
+        requires own { IsOwn self.now node }
+        requires numbers { AreNumbersOf self.now node (lists_of numbers.now) }
+        ensures { AreLocksAt self.now node (lists_of numbers.now) result }
     {
         match self.plan.log.keeping() {
-            Keeping::Masked => {
-                let step = node - self.part.first;
-                mask_of(self.plan.held.before(self.number, step as u32))
-            }
-            Keeping::Listed => 0,
+            Keeping::Masked => KeptLocks::Mask(self.mask(node)),
+            Keeping::Listed => KeptLocks::Numbers(numbers),
         }
     }
 
@@ -98,8 +105,7 @@ impl ThreadPlan<'_, '_> {
         Kept {
             log: self.plan.log,
             thread: self.number,
-            mask: self.mask(node),
-            numbers,
+            locks: self.locks(node, numbers),
             live: &self.live[step],
         }
     }

@@ -15,10 +15,10 @@ use Rattle.ido_machine.specs.declared.machine.Machine.{Machine}
 use Rattle.ido_machine.specs.Machines.{RepresentsMachine, program_in}
 use Rattle.run_tracker.specs.declared.account.Account.{Account}
 use Rattle.run_tracker.specs.declared.counts.Counts.{Counts}
-use Rattle.run_tracker.specs.declared.signs.Entry.{Entry}
-use Rattle.run_tracker.specs.declared.signs.SignTable.{SignTable}
+use Rattle.ido_machine.specs.declared.signs.Entry.{Entry}
+use Rattle.ido_machine.specs.declared.signs.SignTable.{SignTable}
 use Rattle.run_tracker.specs.declared.stepping.Observation.{Observation}
-use Rattle.run_tracker.specs.links.SignTables.{AreTables, entry_at, sign_at}
+use Rattle.ido_machine.specs.links.SignTables.{AreTables, entry_at, sign_at}
 use Rattle.run_tracker.specs.links.AccountRepresentation.{AccountInv, AreOrdered, weight, IsAscending, point_word}
 
 -- the event is a step of one of so many harts, an eviction of their words, a crash or a start
@@ -62,7 +62,8 @@ pub record IsSeen (w : World) (h : ℕ) (tables : List SignTable) (observation :
   pub table : SignTable
   pub owned : slice_get tables h ≡ Some table
   pub sign : observation.sign ≡ sign_at table hart.pc
-  pub position : observation.position ≡ last_position (word_at w.words (point_word w.log h))
+  pub position : observation.sign.store ≡ true → observation.position ≡ last_position (word_at w.words (point_word w.log h))
+  pub unstored : observation.sign.store ≡ false → observation.position ≡ 0
   pub point : point_word w.log h < length w.words
   pub durable : (word_at w.words (point_word w.log h)).durable < length (word_at w.words (point_word w.log h)).values
 

@@ -15,7 +15,7 @@ use Rattle.run_tracker.specs.declared.life.Life.TheInside.{Inside}
 use Rattle.run_tracker.specs.links.AccountRepresentation.{AccountInv, AreOpen, AreOrdered, ends_from, weight}
 use Rattle.run_tracker.specs.links.EarlierLives.{kept_count, lives_in}
 use Rattle.run_tracker.specs.links.SectionRepresentation.{AreSections}
-use Rattle.run_tracker.specs.links.SignTables.{AreTables}
+use Rattle.ido_machine.specs.links.SignTables.{AreTables}
 use Rattle.run_tracker.specs.ObjectLives.{Course, world_of, steps_in, living, opening_of, sections_since}
 
 -- the world before the first event: that of the start, or that after a crash that left these words

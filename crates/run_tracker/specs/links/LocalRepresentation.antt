@@ -7,7 +7,7 @@ use Rattle.hart_core.specs.declared.local.LocalState.{LocalState}
 use Rattle.hart_core.specs.LocalSteps.{PlacedCode, local_run}
 use Rattle.run_tracker.specs.declared.local.LocalRun.TheInside.{Inside}
 use Rattle.run_tracker.specs.LocalRuns.{LocalCourse, state_in}
-use Rattle.run_tracker.specs.links.SignTables.{placed_in, slots_in, IsTableOf}
+use Rattle.ido_machine.specs.links.SignTables.{placed_in, slots_in, IsTableOf}
 
 -- whether a mark stands at the pc: 1 or 0
 abbrev pub marks_at : (marks : List ℕ) → Option LocalState → ℕ

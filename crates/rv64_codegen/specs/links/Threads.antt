@@ -18,9 +18,11 @@ use Rattle.flow_graph.specs.Nodes.{Action, Eval, Store, Test, Lock, Unlock, End,
 use Rattle.flow_graph.specs.Liveness.{NodeAt}
 use Rattle.flow_graph.specs.OmittedCleans.{IsCleanedLater}
 use Rattle.flow_graph.specs.IdempotentCuts.{IsChosen}
+use Rattle.log_schemes.specs.Schemes.{keeping_of}
 use Rattle.node_code.specs.declared.kept.Kept as kept
+use Rattle.node_code.specs.declared.kept.KeptLocks.{KeptLocks}
 use Rattle.node_code.specs.BoundaryCode.{IsQuiet}
-use Rattle.node_code.specs.Pieces.{Appends, IsBoundaryPiece, KeepsFrom, MayKeep, codes_of, kept_words}
+use Rattle.node_code.specs.Pieces.{Appends, IsBoundaryPiece, KeepsFrom, MayKeep, codes_of, keeping_for, kept_words}
 use Rattle.thread_code.specs.Plans.{Plan, Thread, IsPlan, IsThread, IsNodeOf, held_names_before, hold_words, homes, locks_before, names_in}
 use Rattle.thread_code.specs.Programs.{action_nodes}
 use Rattle.rv64_codegen.specs.declared.thread.ThreadPlan as opened
@@ -101,19 +103,26 @@ pub record HasAction (x : opened.ThreadPlan) (node : ℕ) (action : Action) : Ty
 abbrev pub AreNumbersOf : opened.ThreadPlan → (node : ℕ) → List (List Instr) → Type 0
 AreNumbersOf x node codes = AreNumberCodes (plan_in x).log (homes_of x.frame) x.number (held_names_before (plan_in x) (thread_of x) node) codes
 
+-- the locks that are held at the node, as the log keeps them, whatever locals are; these are the codes of their numbers
+pub record AreLocksAt (x : opened.ThreadPlan) (node : ℕ) (codes : List (List Instr)) (kept : KeptLocks) : Type 0 where
+  pub keeping : keeping_of (plan_in x).log ≡ keeping_for kept
+  pub held : (locals : List ℤ) → MayKeep kept (locks_before (plan_in x) (thread_of x) locals node)
+  pub codes_are : codes_of kept ≡ codes
+
 -- what a boundary keeps that lets the thread go on at the node
 pub record IsKeptFor (x : opened.ThreadPlan) (node : ℕ) (k : kept.Kept) : Type 0 where
   pub log_is : k.log ≡ (plan_in x).log
   pub thread_is : k.thread ≡ x.number
   pub live_is : k.live.now ≡ (choices_of x).live node
+  pub keeping : keeping_of k.log ≡ keeping_for k.locks
   -- the locks that are held there, whatever locals are
-  pub locks_are : (locals : List ℤ) → MayKeep k.log k.mask (codes_of k) (locks_before (plan_in x) (thread_of x) locals node)
+  pub locks_are : (locals : List ℤ) → MayKeep k.locks (locks_before (plan_in x) (thread_of x) locals node)
   -- from registers with which the thread enters the node their codes leave their numbers
   pub leave : (locals : List ℤ) (registers : List ℕ) → MayEnter (plan_in x) (thread_of x) locals node registers →
       KeepsFrom k (locks_before (plan_in x) (thread_of x) locals node) registers
   pub few : kept_words k ≤ boundary_words (plan_in x).log (held_names_before (plan_in x) (thread_of x) node)
-  pub room : length k.numbers.now ≤ 16
-  pub quiet : AllByRecursion IsQuiet (codes_of k)
+  pub room : length (codes_of k.locks) ≤ 16
+  pub quiet : AllByRecursion IsQuiet (codes_of k.locks)
 
 -- a piece is appended whose boundary keeps what lets the thread go on at the node
 abbrev pub AppendsKept : (x : opened.ThreadPlan) → (node : ℕ) → (old new : List CodeItem) → (Is : kept.Kept → List CodeItem → Type 0) → Type 0

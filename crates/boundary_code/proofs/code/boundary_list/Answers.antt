@@ -1,4 +1,4 @@
-use Rattle.std.proofs.Common.{◌≡◌, ◌≢◌, ◌≤◌, ◌+◌, length, ℕ, List, [], ◌++◌, refl, ap, subst, sym, ◌∙◌, rules, arith}
+use Rattle.std.proofs.Common.{◌≡◌, ◌≤◌, ◌+◌, length, ℕ, List, ◌++◌, ap, subst, sym, ◌∙◌, rules, arith}
 use Rattle.std.specs.Prelude.{Vec}
 use Rattle.std.specs.Global.{Global}
 use Rattle.std.specs.Int.{cast_signed, cast_unsigned, w32}
@@ -7,13 +7,16 @@ use Rattle.std.proofs.lemmas.List.{length-map}
 use Rattle.std.proofs.lemmas.Result.{IfOk-weaker}
 use Rattle.log_schemes.specs.declared.log.Log.{Log}
 use Rattle.log_schemes.specs.Layout.{log_of}
+use Rattle.log_schemes.specs.Schemes.{keeping_of}
+use Rattle.log_schemes.specs.declared.keeping.Keeping.{Keeping}
+use Rattle.log_schemes.specs.declared.keeping.Keeping.TheVariants.{Listed}
 use Rattle.rv64_isa.specs.declared.instr.Instr.{Instr}
 use Rattle.rv64_isa.specs.Signed.{twos_complement}
 use Rattle.operator_code.specs.StraightLineCode.{IsConstant}
-use Rattle.boundary_code.specs.Boundaries.{Boundary, fixed_words, keep_locks, lists_of, number_words}
-use Rattle.boundary_code.specs.links.InstructionLists.{KeptCode, boundary_list, last_list}
-use Rattle.boundary_code.proofs.BoundariesByPieces.{Parts, last_made}
-use Rattle.boundary_code.proofs.ListParts.{list_parts}
+use Rattle.boundary_code.specs.Boundaries.{Boundary, first_kept, fixed_words, keep_locks, listed_locks, lists_of, number_words}
+use Rattle.boundary_code.specs.links.InstructionLists.{bank_list, last_list}
+use Rattle.boundary_code.proofs.EmptyLists.{none_long, some_long}
+use Rattle.boundary_code.proofs.MadeBoundaries.{Parts, bank_made, last_made, slots_are}
 use Rattle.boundary_code.proofs.Lengths.{boundary_short, last_short, locks_length}
 use Rattle.boundary_code.proofs.code.boundary_list.Goals as goal
 
@@ -26,16 +29,60 @@ lists_length locks = length-map locks (λ (code : Vec Instr Global). code.items)
 short_as : (code list : List Instr) (n : ℕ) → code ≡ list → length list ≤ n → length code ≤ n
 short_as code list n e h = subst (λ (is : List Instr). length is ≤ n) (sym e) h
 
-pub returns-then-is_empty-clause-last : goal.returns-then-is_empty-clause-last
-returns-then-is_empty-clause-last c = λ none.
-    let b : Boundary = record { log = c.args.log; thread = c.args.thread; locks = []; live = c.args.live.now; resume = c.args.resume } in
+-- each has a slot of its own
+all_listed : (log : Log) (numbers : List ℕ) → keeping_of log ≡ Listed → length numbers ≡ length (listed_locks (keeping_of log) numbers)
+all_listed log numbers lists = ap (λ (k : Keeping). length (listed_locks k numbers)) (sym lists)
+
+is_count : (log : Log) (numbers : List ℕ) (count : ℕ) (code : List Instr) → keeping_of log ≡ Listed → length numbers ≡ count → IsConstant 7 count code →
+    IsConstant 7 (first_kept (keeping_of log) numbers) code
+is_count log numbers count code lists many c =
+    subst (λ (k : Keeping). IsConstant 7 (first_kept k numbers) code) (sym lists) (subst (λ (n : ℕ). IsConstant 7 n code) (sym many) c)
+
+pub returns-then-is_empty-clause-code : goal.returns-then-is_empty-clause-code
+returns-then-is_empty-clause-code c =
     IfOk-weaker c.emit_last_boundary.result _ _
-    (λ code k. last_made b c.in_ok-address.address.items c.deref.result.now code.items c.requires.thread refl
-    (is_log c.args.log c.log_of.result c.args.thread c.in_ok-address.address.items c.log_of.ensures c.in_ok-address.ensures.code) c.deref.ensures.value k)
+    (λ code k numbers many.
+    let b : Boundary = record { log = c.args.log; thread = c.args.thread; locks = numbers; live = c.args.live.now; resume = c.args.resume } in
+    let codes : List (List Instr) = lists_of c.args.locks.now in
+    let long : length codes ≡ length c.args.locks.now = lists_length c.args.locks.now in
+    let parts : Parts b codes c.in_ok-address.address.items = record {
+      is_log = is_log c.args.log c.log_of.result c.args.thread c.in_ok-address.address.items c.log_of.ensures c.in_ok-address.ensures.code;
+      many = long ∙ sym many ∙ all_listed c.args.log numbers c.requires.keeping;
+      few = omega (arith, long, c.requires.locks);
+      thread_is = c.requires.thread;
+      live_are = c.requires.live;
+      low = c.requires.low;
+      high = c.requires.high;
+    } in
+    last_made b codes c.in_ok-address.address.items c.deref.result.now code.items parts (none_long numbers (many ∙ search rules)) c.deref.ensures.value k)
     c.emit_last_boundary.ensures
 
-pub returns-clause-last : goal.returns-clause-last
-returns-clause-last c = λ none. absurd (search rules)
+pub returns-clause-code : goal.returns-clause-code
+returns-clause-code c =
+    IfOk-weaker c.emit_boundary.result _ _
+    (λ code k numbers many.
+    let b : Boundary = record { log = c.args.log; thread = c.args.thread; locks = numbers; live = c.args.live.now; resume = c.args.resume } in
+    let codes : List (List Instr) = lists_of c.args.locks.now in
+    let long : length codes ≡ length c.args.locks.now = lists_length c.args.locks.now in
+    let all = all_listed c.args.log numbers c.requires.keeping in
+    let parts : Parts b codes c.in_ok-address.address.items = record {
+      is_log = is_log c.args.log c.log_of.result c.args.thread c.in_ok-address.address.items c.log_of.ensures c.in_ok-address.ensures.code;
+      many = long ∙ sym many ∙ all;
+      few = omega (arith, long, c.requires.locks);
+      thread_is = c.requires.thread;
+      live_are = c.requires.live;
+      low = c.requires.low;
+      high = c.requires.high;
+    } in
+    bank_made b codes c.in_ok-address.address.items c.in_ok-first.first.items c.deref-2.result.now c.deref-3.result.now c.deref-4.result.now
+    c.deref-5.result.now (cast_signed w32 (cast_unsigned w32 c.args.resume)) code.items parts (some_long numbers (λ none. absurd (search rules)))
+    (is_count c.args.log numbers (length c.args.locks.now) c.in_ok-first.first.items c.requires.keeping many
+    (subst (λ (n : ℕ). IsConstant 7 n c.in_ok-first.first.items) c.from.ensures c.in_ok-first.ensures.code)) c.deref-2.ensures.value c.deref-3.ensures.value
+    (c.deref-4.ensures.value ∙ c.in_ok-emit_locks.ensures
+    ∙ ap (λ (is : List Instr). is ++ keep_locks c.args.log 0 codes) c.new-others.ensures.items)
+    (c.deref-5.ensures.value ∙ c.in_ok-slots.ensures ∙ slots_are c.args.log numbers c.args.live.now (length c.args.locks.now) (sym many ∙ all))
+    (to_z-of_z w32 c.args.resume c.ranges.resume) k)
+    c.emit_boundary.ensures
 
 pub returns-then-is_empty-clause-short : goal.returns-then-is_empty-clause-short
 returns-then-is_empty-clause-short c =
@@ -52,8 +99,7 @@ returns-clause-short c =
     IfOk-weaker c.emit_boundary.result _ _
     (λ code k.
     let resume = twos_complement 32 (cast_signed w32 (cast_unsigned w32 c.args.resume)) in
-    let kept : KeptCode = record { first = c.deref-3.result.now; others = c.deref-4.result.now; slots = c.deref-5.result.now } in
-    let few = boundary_short c.args.log c.deref-2.result.now kept c.args.live.now resume
+    let few = boundary_short c.args.log c.deref-2.result.now c.deref-3.result.now c.deref-4.result.now c.deref-5.result.now c.args.live.now resume
     (subst (λ (is : List Instr). length is ≤ 8) (sym c.deref-2.ensures.value) c.in_ok-address.ensures.short)
     (subst (λ (is : List Instr). length is ≤ 8) (sym c.deref-3.ensures.value) c.in_ok-first.ensures.short) in
     let others : length c.deref-4.result.now ≡ length (keep_locks c.args.log 0 (lists_of c.args.locks.now)) =
@@ -61,30 +107,6 @@ returns-clause-short c =
     (c.deref-4.ensures.value ∙ c.in_ok-emit_locks.ensures
     ∙ ap (λ (is : List Instr). is ++ keep_locks c.args.log 0 (lists_of c.args.locks.now)) c.new-others.ensures.items) in
     let locks = locks_length c.args.log 0 (lists_of c.args.locks.now) in
-    short_as code.items (boundary_list c.args.log c.deref-2.result.now kept c.args.live.now resume)
+    short_as code.items (bank_list c.args.log c.deref-2.result.now c.deref-3.result.now c.deref-4.result.now c.deref-5.result.now c.args.live.now resume)
     (length c.args.live.now + fixed_words c.args.log + number_words (lists_of c.args.locks.now)) k (omega (arith, few, others, locks)))
-    c.emit_boundary.ensures
-
-pub returns-then-is_empty-clause-parts : goal.returns-then-is_empty-clause-parts
-returns-then-is_empty-clause-parts c = λ some. absurd (some (search rules))
-
-pub returns-clause-parts : goal.returns-clause-parts
-returns-clause-parts c = λ some.
-    let parts : Parts c.args.log c.args.thread c.args.live.now c.args.resume c.in_ok-address.address.items = record {
-      thread_is = c.requires.thread;
-      live_are = c.requires.live;
-      low = c.requires.low;
-      high = c.requires.high;
-      is_log = is_log c.args.log c.log_of.result c.args.thread c.in_ok-address.address.items c.log_of.ensures c.in_ok-address.ensures.code;
-    } in
-    IfOk-weaker c.emit_boundary.result _ _
-    (λ code k. list_parts c.args.log c.requires.keeping c.args.thread c.args.live.now c.args.resume (lists_of c.args.locks.now) c.in_ok-address.address.items
-    c.in_ok-first.first.items c.deref-2.result.now c.deref-3.result.now c.deref-4.result.now c.deref-5.result.now
-    (cast_signed w32 (cast_unsigned w32 c.args.resume)) code.items (length c.args.locks.now) parts
-    (sym (lists_length c.args.locks.now)) (subst (λ (n : ℕ). IsConstant 7 n c.in_ok-first.first.items) c.from.ensures c.in_ok-first.ensures.code)
-    c.deref-2.ensures.value c.deref-3.ensures.value
-    (c.deref-4.ensures.value ∙ c.in_ok-emit_locks.ensures
-    ∙ ap (λ (is : List Instr). is ++ keep_locks c.args.log 0 (lists_of c.args.locks.now)) c.new-others.ensures.items)
-    (c.deref-5.ensures.value ∙ c.in_ok-slots.ensures)
-    (to_z-of_z w32 c.args.resume c.ranges.resume) k)
     c.emit_boundary.ensures

@@ -1,9 +1,10 @@
-use Rattle.std.proofs.Common.{◌≡◌, ◌<◌, ◌+◌, ◌-◌, ◌++◌, ◌∷◌, ◌/◌, ◌==◌, ℕ, suc, List, [], Bool, true, false, filter, refl, ap, sym, ◌∙◌, append_assoc, arith}
+use Rattle.std.proofs.Common.{◌≡◌, ◌<◌, ◌+◌, ◌-◌, ◌++◌, ◌∷◌, ◌/◌, ◌==◌, ℕ, suc, List, Bool, true, false, filter, refl, ap, ◌∙◌, append_assoc, arith}
 use Rattle.std.proofs.Common.{if◌then◌else◌}
 use Rattle.std.specs.List.{list_any}
 use Rattle.log_schemes.specs.Schemes.{lines_in_bank, numbers_from, size_of}
 use Rattle.rv64_isa.specs.declared.instr.Instr.{Instr}
-use Rattle.boundary_code.specs.links.InstructionLists.{clean_lines, clean_where}
+use Rattle.boundary_code.specs.Boundaries.{clean_lines}
+use Rattle.boundary_code.specs.links.InstructionLists.{clean_where}
 use Rattle.boundary_code.proofs.code.emit_cleans.Goals as goal
 
 -- one line more, in use or not

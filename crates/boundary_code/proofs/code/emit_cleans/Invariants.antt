@@ -2,7 +2,7 @@ use Rattle.std.proofs.Common.{◌≡◌, ◌-◌, ◌/◌, ◌==◌, ◌++◌, f
 use Rattle.std.specs.List.{list_any}
 use Rattle.log_schemes.specs.Schemes.{lines_in_bank, numbers_from, size_of}
 use Rattle.boundary_code.specs.Boundaries.{lines_in_use}
-use Rattle.boundary_code.specs.links.InstructionLists.{clean_lines}
+use Rattle.boundary_code.specs.Boundaries.{clean_lines}
 use Rattle.boundary_code.proofs.code.emit_cleans.Given as goal
 
 abbrev pub invariant-loop-line : goal.invariant-loop-line

@@ -1,5 +1,5 @@
 use Rattle.std.proofs.Common.{◌≡◌, ◌++◌, drop}
-use Rattle.boundary_code.specs.links.InstructionLists.{keep_slots}
+use Rattle.boundary_code.specs.Boundaries.{keep_slots}
 use Rattle.boundary_code.proofs.code.emit_slots.Given as goal
 
 abbrev pub invariant-loop-register : goal.invariant-loop-register

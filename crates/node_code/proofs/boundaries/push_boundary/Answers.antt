@@ -13,5 +13,5 @@ returns c =
     on_ok_weaker c.append_boundary.result (λ e. record {
       piece = _;
       appended = e;
-      is = λ locks may. is_boundary (boundary_of k locks 0) (codes_of k) c.deref.result.now refl (is locks may);
+      is = λ locks may. is_boundary (boundary_of k locks 0) (codes_of k.locks) c.deref.result.now refl (is locks may);
     }) c.append_boundary.ensures

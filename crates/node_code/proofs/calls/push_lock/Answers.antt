@@ -14,5 +14,6 @@ returns c =
       piece = _;
       appended = e;
       is = λ locks lock may.
-          is_lock (boundary_of k locks 0) (codes_of k) c.args.numbering.now c.deref.result.now lock c.requires.some c.requires.quiet_number refl (is locks may);
+          is_lock (boundary_of k locks 0) (codes_of k.locks) c.args.numbering.now c.deref.result.now lock c.requires.some c.requires.quiet_number refl
+          (is locks may);
     }) c.append_lock.ensures

@@ -7,4 +7,4 @@ pub returns-clause-history : goal.returns-clause-history
 returns-clause-history g c =
     let left = g.C.Core.space c.args.core.now - c.args.floor in
     let made : c.min.result ≡ min c.args.count left = omega (arith, c.min.ensures, c.room.ensures) in
-    c.make_steps.ensures.history ∙ ap (λ es. g.C.Core.history c.args.core.now ++ es) (take-replicate (Step c.args.hart) left c.args.count c.min.result made)
+    c.steps.ensures.history ∙ ap (λ es. g.C.Core.history c.args.core.now ++ es) (take-replicate (Step c.args.hart) left c.args.count c.min.result made)

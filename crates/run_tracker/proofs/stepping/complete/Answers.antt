@@ -1,12 +1,13 @@
-use Rattle.std.proofs.Common.{◌==◌, not, refl, sym, subst, arith}
+use Rattle.std.proofs.Common.{◌≡◌, ℕ, ◌==◌, not, true, refl, sym, subst, arith}
+use Rattle.ido_base.specs.Words.{word_at, last_position}
 use Rattle.machine_events.specs.declared.event.Reply.TheVariants.{Moved}
 use Rattle.machine_events.specs.declared.event.Event.TheVariants.{Step}
 use Rattle.machine_model.specs.Machine.{after_event}
 use Rattle.machine_model.specs.Schedule.{is_fence, is_point_store, finishes_fence, stores_point}
 use Rattle.run_tracker.specs.links.AccountRepresentation.{AccountInv}
-use Rattle.run_tracker.proofs.StepsByObservation.{fence_done, mark_is, plain_counts, plain_steps, point_is, position_is}
+use Rattle.run_tracker.proofs.StepsByObservation.{fence_done, mark_is, plain_counts, plain_steps, point_is, position_is, steps_are}
 use Rattle.run_tracker.proofs.EventCounts.{completes-other, counted-one}
-use Rattle.run_tracker.proofs.Events.{begun_if, noted_is}
+use Rattle.run_tracker.proofs.Events.{begun_if}
 use Rattle.run_tracker.proofs.stepping.complete.Goals as goal
 
 pub returns-then-observation-clause-steps : goal.returns-then-observation-clause-steps
@@ -24,36 +25,37 @@ returns-then-observation-clause-counts c = λ program marks w stepped.
 pub returns-clause-steps : goal.returns-clause-steps
 returns-clause-steps c = λ program marks w s stepped a.
     let h = c.args.hart in
-    let mark = c.args.observation.sign.mark in
-    let position = c.position_after-position.result in
-    let at = position_is program marks c.args.machine.now h c.args.observation Moved w stepped c.requires.running refl position
-    c.args.observation.sign.store refl
-    (λ stores. c.position_after-position.ensures.stored stores (after_event program w (Step h)) stepped.stands) c.position_after-position.ensures.unstored in
+    let seen = c.args.observation in
+    let position = c.position_if-position.result in
+    let at = λ (stores : seen.sign.store ≡ true). position_is program marks c.args.machine.now h seen Moved w stepped c.requires.running refl position
+    (c.position_if-position.ensures.asked stores (after_event program w (Step h)) stepped.stands) in
     subst (AccountInv c.bind_if.new.self)
-    (noted_is marks program w h s mark (not (position == c.args.observation.position)) position
-    (mark_is program marks c.args.machine.now h c.args.observation Moved w stepped c.requires.running refl)
-    (point_is program marks c.args.machine.now h c.args.observation Moved w stepped c.requires.running refl position at)
+    (steps_are program marks c.args.machine.now h seen Moved w stepped c.requires.running refl s seen.sign.mark (not (position == seen.position)) position
+    seen.sign.store refl (mark_is program marks c.args.machine.now h seen Moved w stepped c.requires.running refl)
+    (point_is program marks c.args.machine.now h seen Moved w stepped c.requires.running refl position seen.sign.store refl at
+    c.position_if-position.ensures.unasked)
     at)
-    (c.bind_if.ensures.stands (begun_if mark h s) (c.begin_if.ensures.stands s a))
+    (c.bind_if.ensures.stands (begun_if seen.sign.mark h s) (c.begin_if.ensures.stands s a))
 
 pub returns-clause-counts : goal.returns-clause-counts
 returns-clause-counts c = λ program marks w stepped.
     let h = c.args.hart in
-    let position = c.position_after-position.result in
-    let at = position_is program marks c.args.machine.now h c.args.observation Moved w stepped c.requires.running refl position
-    c.args.observation.sign.store refl
-    (λ stores. c.position_after-position.ensures.stored stores (after_event program w (Step h)) stepped.stands) c.position_after-position.ensures.unstored in
+    let seen = c.args.observation in
+    let position = c.position_if-position.result in
+    let at = λ (stores : seen.sign.store ≡ true). position_is program marks c.args.machine.now h seen Moved w stepped c.requires.running refl position
+    (c.position_if-position.ensures.asked stores (after_event program w (Step h)) stepped.stands) in
     record {
       points =
-          counted-one c.args.counts.now.points.items c.add.new.self.points.items h (not (position == c.args.observation.position))
+          counted-one c.args.counts.now.points.items c.add.new.self.points.items h (not (position == seen.position))
           (λ g. stores_point program w (Step h) g) c.add.ensures.points
           (omega (arith, c.requires.counts.points, c.requires.exists))
-          (point_is program marks c.args.machine.now h c.args.observation Moved w stepped c.requires.running refl position at)
+          (point_is program marks c.args.machine.now h seen Moved w stepped c.requires.running refl position seen.sign.store refl at
+          c.position_if-position.ensures.unasked)
           (λ g ne. completes-other (is_point_store w.log g) program w h g ne);
       fences =
-          counted-one c.args.counts.now.fences.items c.add.new.self.fences.items h c.args.observation.sign.fence (λ g. finishes_fence program w (Step h) g)
+          counted-one c.args.counts.now.fences.items c.add.new.self.fences.items h seen.sign.fence (λ g. finishes_fence program w (Step h) g)
           c.add.ensures.fences
           (omega (arith, c.requires.counts.fences, c.requires.exists))
-          (fence_done program marks c.args.machine.now h c.args.observation Moved w stepped c.requires.running refl)
+          (fence_done program marks c.args.machine.now h seen Moved w stepped c.requires.running refl)
           (λ g ne. completes-other is_fence program w h g ne);
     }

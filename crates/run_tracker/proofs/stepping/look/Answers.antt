@@ -21,7 +21,8 @@ returns c = λ tables table w stands owned next.
       table = table;
       owned = owned;
       sign = next hart some.1;
-      position = c.point_position.ensures w stands;
+      position = λ stores. c.position_if.ensures.asked stores w stands;
+      unstored = c.position_if.ensures.unasked;
       point = point;
       durable = (stands.words.cells.each (point_word w.log h) (omega (arith, stands.words.cells.size, point))).order;
     }

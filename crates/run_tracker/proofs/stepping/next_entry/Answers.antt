@@ -1,6 +1,6 @@
 use Rattle.std.proofs.Common.{◌≡◌, ◌<◌, length, slice_get, Option, Some, sym, ap, ◌∙◌, arith}
-use Rattle.run_tracker.specs.declared.signs.SignTable.{SignTable}
-use Rattle.run_tracker.specs.links.SignTables.{entry_at}
+use Rattle.ido_machine.specs.declared.signs.SignTable.{SignTable}
+use Rattle.ido_machine.specs.links.SignTables.{entry_at}
 use Rattle.ido_machine.proofs.Public.{get_is}
 use Rattle.run_tracker.proofs.stepping.next_entry.Goals as goal
 

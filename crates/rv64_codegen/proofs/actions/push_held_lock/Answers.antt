@@ -13,6 +13,9 @@ kept-kept-requires-clause-numbers c =
     subst (λ (codes : List (Vec Instr Global)). AreNumbersOf c.args.thread.now c.args.next (lists_of codes)) (sym c.deref.ensures.value)
     c.in_ok-numbers.ensures
 
+pub push_lock-requires-clause-keeping : goal.push_lock-requires-clause-keeping
+push_lock-requires-clause-keeping c = c.kept-kept.ensures.keeping
+
 pub push_lock-requires-clause-thread : goal.push_lock-requires-clause-thread
 push_lock-requires-clause-thread c = kept_thread c.args.thread.now c.requires.own.open_is c.args.next c.kept-kept.result c.kept-kept.ensures
 

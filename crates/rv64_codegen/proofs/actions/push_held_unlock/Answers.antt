@@ -13,6 +13,9 @@ kept-kept-requires-clause-numbers c =
     subst (λ (codes : List (Vec Instr Global)). AreNumbersOf c.args.thread.now c.args.next (lists_of codes)) (sym c.deref.ensures.value)
     c.in_ok-numbers.ensures
 
+pub push_unlock-requires-clause-keeping : goal.push_unlock-requires-clause-keeping
+push_unlock-requires-clause-keeping c = c.kept-kept.ensures.keeping
+
 pub push_unlock-requires-clause-thread : goal.push_unlock-requires-clause-thread
 push_unlock-requires-clause-thread c = kept_thread c.args.thread.now c.requires.own.open_is c.args.next c.kept-kept.result c.kept-kept.ensures
 

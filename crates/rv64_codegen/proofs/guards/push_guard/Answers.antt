@@ -19,6 +19,9 @@ kept-kept-requires-clause-numbers c =
     subst (λ (codes : List (Vec Instr Global)). AreNumbersOf c.args.thread.now c.args.node (lists_of codes)) (sym c.deref.ensures.value)
     c.in_ok-numbers.ensures
 
+pub push_boundary-requires-clause-keeping : goal.push_boundary-requires-clause-keeping
+push_boundary-requires-clause-keeping c = c.kept-kept.ensures.keeping
+
 pub push_boundary-requires-clause-thread : goal.push_boundary-requires-clause-thread
 push_boundary-requires-clause-thread c = kept_thread c.args.thread.now c.requires.open_is c.args.node c.kept-kept.result c.kept-kept.ensures
 

@@ -18,7 +18,7 @@ use Rattle.run_tracker.specs.links.AccountRepresentation.{AccountInv, AreOpen, A
 use Rattle.run_tracker.specs.links.EarlierLives.{lives_in, schedule_in, steps_together}
 use Rattle.run_tracker.specs.declared.sections.HartSections.{HartSections}
 use Rattle.run_tracker.specs.links.SectionRepresentation.{AreSections}
-use Rattle.run_tracker.specs.links.SignTables.{AreTables}
+use Rattle.ido_machine.specs.links.SignTables.{AreTables}
 use Rattle.run_tracker.specs.ObjectLives.{Course, sections_since, life_at, world_of, steps_in, living, opening_of}
 use Rattle.run_tracker.specs.links.LifeRepresentation.{course_of, kept_first, opening_by, AreCounts}
 use Rattle.run_tracker.proofs.Events.{weightless}

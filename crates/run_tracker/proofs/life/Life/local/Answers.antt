@@ -10,11 +10,11 @@ use Rattle.ido_machine.proofs.Public.{get_is, get_map, get_some}
 use Rattle.run_tracker.specs.ObjectLives.{Course, opening_of, world_of}
 use Rattle.run_tracker.specs.LocalRuns.{LocalCourse, IsLocalOf, local_at}
 use Rattle.run_tracker.specs.links.LifeRepresentation.{course_of}
-use Rattle.run_tracker.specs.links.SignTables.{placed_in, IsTableOf}
+use Rattle.ido_machine.specs.links.SignTables.{placed_in, IsTableOf}
 use Rattle.run_tracker.proofs.Beginnings.{begins_there}
 use Rattle.run_tracker.proofs.LifeChanges.{hart_count}
 use Rattle.run_tracker.proofs.LocalInvariants.{copied}
-use Rattle.run_tracker.proofs.SignObservations.{own_table, placed_is}
+use Rattle.ido_machine.proofs.Public.{own_table, placed_is}
 use Rattle.run_tracker.proofs.life.Life.local.Goals as goal
 
 pub new-requires : goal.new-requires

@@ -1,8 +1,8 @@
 use Rattle.std.proofs.Common.{◌≡◌, ◌+◌, true, false, Option, Some, IfSome, refl, sym, ap, subst, ◌∙◌, arith}
 use Rattle.hart_core.specs.LocalSteps.{local_step}
 use Rattle.machine_model.specs.Schedule.{is_running}
-use Rattle.run_tracker.specs.declared.signs.Sign.{Sign}
-use Rattle.run_tracker.specs.links.SignTables.{placed_in, sign_at}
+use Rattle.ido_machine.specs.declared.signs.Sign.{Sign}
+use Rattle.ido_machine.specs.links.SignTables.{placed_in, sign_at}
 use Rattle.run_tracker.proofs.LocalInvariants.{goes_on}
 use Rattle.run_tracker.proofs.local.LocalRun.ahead.Goals as goal
 use Rattle.run_tracker.proofs.local.LocalRun.ahead.Goals.{then-sign, else-sign}

@@ -1,0 +1,12 @@
+mod Cases
+mod Scans
+mod Numerals
+mod Tokens
+mod Words
+mod Lines
+mod Trees
+mod Derivations
+mod RuleChecks
+mod Rooms
+mod Sources
+mod Accepted

@@ -1,0 +1,9 @@
+mod Calls
+mod OwnStores
+mod BegunStores
+mod BanksBeforePoints
+mod BanksKept
+mod RegistersResumed
+mod StoresFollowReads
+mod Releases
+mod RecordsFollowLocks

@@ -1,0 +1,99 @@
+-- A hart that is resumed has the registers that it has recorded.
+use Rattle.std.proofs.Common.{◌≡◌, refl, ℕ, ◌<◌, List, [], ap, sym, ◌∙◌, subst, Bool, Contains, slice_get, slice_set, if◌then◌else◌, arith}
+use Rattle.std.proofs.lemmas.Option.{slice_get_within}
+use Rattle.machine_events.specs.declared.event.Event.TheVariants.{Step}
+use Rattle.c_tree.specs.Source.{State}
+use Rattle.rv64_isa.specs.Rows.{read}
+use Rattle.machine_model.specs.declared.phase.Phase.TheVariants.{Resume}
+use Rattle.machine_model.specs.Machine.{Hart, Outcome, World, happens, moved, resumed_registers}
+use Rattle.machine_model.proofs.Public.{get-set_same}
+use Rattle.flow_graph.specs.Lockstep.{Matches}
+use Rattle.hart_runs.specs.Calls.{IsInPhase}
+use Rattle.hart_runs.proofs.Public.{resumes_step, same_there}
+use Rattle.log_states.specs.Laws.{ResumesRecord}
+use Rattle.log_states.specs.Logs.{IsRecorded, nothing_recorded}
+use Rattle.log_states.specs.Machines.{config_of}
+use Rattle.log_states.proofs.Public.{ends, log_facts}
+use Rattle.recovered_threads.specs.RecordDescriptions.{Code, Describes}
+use Rattle.recovered_threads.specs.RecoveryStates.{Gathers, HasGathered, IsRecoveredHart, ResumesThread}
+use Rattle.recovered_threads.proofs.Public.{harts_go_on}
+use Rattle.crash_simulation.specs.AbstractRuns.{kept_of}
+use Rattle.crash_simulation.specs.AccountRelation.{MachinesResume}
+use Rattle.crash_simulation.specs.SimulationRelation.{AreLocked, Simulates, gathered, gathering, records_of}
+use Rattle.crash_simulation.specs.Systems.{System, IsSystem, flat_of, thread_count}
+use Rattle.crash_simulation.specs.ThreadGhosts.{Rests, ThreadGhost}
+use Rattle.crash_simulation.proofs.Public.{as_source, phase_of}
+use Rattle.compiler_correctness.specs.Laws.{translation_of}
+use Rattle.compiler_correctness.specs.Translations.{steps, world}
+use Rattle.compiler_correctness.proofs.Public.{kept_is}
+use Rattle.resumption_facts.specs.RegistersResumed.{RegistersAreResumed}
+
+module _ (y : System) (s : IsSystem y) (w : World) (stands : Simulates y s w) (h : ℕ) (i : IsInPhase w h Resume) where
+  open stands use {abstract as b}
+
+  pub below : h < thread_count y
+  below = let inside = slice_get_within w.harts h i.hart i.here in omega (arith, inside, stands.machine.count)
+
+  abbrev pub code : Code y.plan
+  code = s.codes.each h below
+
+  abbrev pub ghost : ThreadGhost
+  ghost = stands.ghosts h
+
+  rests : Rests y b.config code.thread.number ghost
+  rests = phase_of y s w h stands Resume i below
+
+  ready_by : AreLocked y w b stands.ghosts → IsRecoveredHart w h ghost.new
+  ready_by (gathering none gathers) = absurd (subst (Gathers w h (records_of stands.ghosts h)) i.phase_is (gathers.each h i.hart i.here))
+  ready_by (gathered ag held) = subst (HasGathered w h (records_of stands.ghosts h)) i.phase_is (ag.each h i.hart i.here)
+
+  ready : IsRecoveredHart w h ghost.new
+  ready = ready_by stands.locks
+
+  describes : Describes y.plan code (kept_of y b) ghost.new
+  describes =
+      subst (λ (done : Bool). Describes y.plan code (kept_of y b) (if done then ghost.new else ghost.old)) rests.committed
+      (stands.each h below).records.describes
+
+  pub goes : ResumesThread y.runs.program code (kept_of y b) w i.hart ghost.new
+  goes =
+      harts_go_on y.runs.program y.plan code (kept_of y b) w ghost.new stands.machine.log describes
+      (subst (λ (k : ℕ). IsRecoveredHart w k ghost.new) (sym (s.codes.number h below)) ready)
+      (record { hart = i.hart; here = ap (slice_get w.harts) (s.codes.number h below) ∙ i.here; phase_is = i.phase_is })
+
+  -- its log has the record
+  pub recorded : IsRecorded w.log h ghost.new w.words
+  recorded = let log = ready.log in ends w.log h nothing_recorded ghost.new (config_of w log.hart []) log.log refl
+
+  reads : ResumesRecord w.log h ghost.new w.words
+  reads = log_facts.registers_resumed.between w.log h ghost.new w.words ready.log.log.follows.new_is recorded
+
+  -- the hart after the step is one
+  same_hart : (one other : Hart) → happens y.runs.program w (Step h) ≡ moved w h one → happens y.runs.program w (Step h) ≡ moved w h other → one ≡ other
+  same_hart one other first second =
+      same_there (slice_get (slice_set w.harts h one) h) one other (get-set_same w.harts h one i.hart i.here)
+      (ap (λ (o : Outcome). slice_get o.0.harts h) (sym first ∙ second) ∙ get-set_same w.harts h other i.hart i.here)
+
+  pub has_registers : (register : ℕ) → Contains ghost.new.live register → read goes.after.registers register ≡ read ghost.new.registers register
+  has_registers register kept =
+      let step = resumes_step y.runs.program w h i in
+      let own : happens y.runs.program w (Step h) ≡ moved w h goes.after =
+      subst (λ (k : ℕ). happens y.runs.program w (Step k) ≡ moved w k goes.after) (s.codes.number h below) goes.does in
+      let all : goes.after.registers ≡ resumed_registers w.log w.words h =
+      ap (λ (x : Hart). x.registers) (same_hart goes.after step.after own step.does) ∙ step.registers in
+      ap (λ (x : List ℕ). read x register) all ∙ reads.registers ready.inside register kept
+
+pub registers_are_resumed : MachinesResume → RegistersAreResumed
+registers_are_resumed machines y s events h i =
+    let w : World = world (translation_of y) events in
+    let stands : Simulates y s w = (machines y s events).is.stands in
+    record {
+      recorded = (stands.ghosts h).new;
+      log = recorded y s w stands h i;
+      below = below y s w stands h i;
+      state = kept_of y stands.abstract;
+      matches = subst (λ (z : State). Matches (flat_of y) (kept_of y stands.abstract) z)
+          (sym (kept_is y s w (steps (translation_of y) events) (machines y s events))) (as_source y s stands.abstract).kept_matches;
+      resumes = goes y s w stands h i;
+      registers = has_registers y s w stands h i;
+    }

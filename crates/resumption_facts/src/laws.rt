@@ -1,0 +1,59 @@
+//! The facts, by name.
+ghost use Rattle.resumption_facts.specs.BanksBeforePoints.{BanksComeBeforePoints};
+ghost use Rattle.resumption_facts.specs.BanksKept.{BanksAreKept};
+ghost use Rattle.resumption_facts.specs.RecordsFollowLocks.{RecordsFollowLocks};
+ghost use Rattle.resumption_facts.specs.RegistersResumed.{RegistersAreResumed};
+ghost use Rattle.resumption_facts.specs.StoresFollowReads.{RerunsReadNothingOverwritten};
+
+use compiler_correctness::laws::machines_record;
+use crash_simulation::laws::{cores_step, events_stand, fragments_step, machines_resume};
+use thread_runs::laws::{fragments_go_on, marks_pass};
+
+/// Bank before point: whenever a hart is about to store its point, the bank that this names is durable. Each slot of the record has what was recorded:
+/// where the thread stands by all steps that are begun, with the locks held there, which the hart has taken, and the live registers. What the thread has
+/// stored since its last point is durable as it is now.
+pub fn banks_come_before_points()
+    ensures { BanksComeBeforePoints }
+{
+    machines_resume();
+    fragments_go_on();
+    marks_pass();
+}
+
+/// Bank kept: whatever happens but a crash, no word of a bank is stored to that the hart's live or durable point names, by whichever hart.
+pub fn banks_are_kept()
+    ensures { BanksAreKept }
+{
+    machines_resume();
+    cores_step();
+    fragments_step();
+    fragments_go_on();
+    marks_pass();
+}
+
+/// Registers resumed: a hart that is resumed has each register that it has recorded, and so all that the code there may rely on: the side of its log, each
+/// local that is live where the kept steps leave its thread, and a store that is pending.
+pub fn registers_are_resumed()
+    ensures { RegistersAreResumed }
+{
+    machines_resume();
+}
+
+/// Rerun reads nothing overwritten: from where a thread would be resumed on it stores nothing that it has read before on the way, unless it had stored that
+/// before it read it.
+pub fn reruns_read_nothing_overwritten()
+    ensures { RerunsReadNothingOverwritten }
+{
+    machines_resume();
+}
+
+/// Record follows locks: a hart's record is the set that its thread holds where it would be resumed. The hart holds all of it, unless it takes it in
+/// recovery just then, and no more when it is resumed; and no lock is given back that is in it.
+pub fn records_follow_locks()
+    ensures { RecordsFollowLocks }
+{
+    machines_resume();
+    machines_record();
+    marks_pass();
+    events_stand();
+}
