@@ -5,7 +5,7 @@ use Rattle.log_schemes.specs.Layout.{point_at}
 use Rattle.ido_base.specs.Locks.{holds_none}
 use Rattle.c_tree.specs.Source.{State, after_from, is_between, runs_from}
 use Rattle.machine_model.specs.Machine.{World, are_settled, durable_point, is_settled, is_settled_hart, live_at, resume_of}
-use Rattle.machine_model.specs.Schedule.{Steps, schedules}
+use Rattle.machine_model.specs.Schedule.{Steps, harts_of, schedules}
 use Rattle.variable_words.specs.Variables.{durable_variables}
 use Rattle.variable_words.proofs.Public.{well_formed_placed, durable_are_memory}
 use Rattle.crash_simulation.specs.Systems.{System, IsSystem, flat_of, thread_count}
@@ -98,16 +98,16 @@ module _ (y : System) (s : IsSystem y) (w : World) (steps : Steps) {r : ℕ → 
   abbrev from : State
   from = abstract.origin.source
 
-  pub now_runs : IsRunnable (translation_of y) (steps.earlier ++ (steps.kept ++ steps.pending) ∷ [])
+  pub now_runs : IsRunnable (translation_of y) (steps.earlier ++ (steps.kept ++ harts_of steps.pending) ∷ [])
   now_runs =
-      runnable y s w steps resumes (steps.kept ++ steps.pending)
-      ((goes_on from steps.kept steps.pending (kept_from y s w steps resumes).0).runs
+      runnable y s w steps resumes (steps.kept ++ harts_of steps.pending)
+      ((goes_on from steps.kept (harts_of steps.pending) (kept_from y s w steps resumes).0).runs
       ∙ (ap₂ m.runs_from (kept_from y s w steps resumes).1 resumes.is.counted.pending ∙ (resumed y s abstract).resumed.invariant.runs))
 
-  pub now_is : source (translation_of y) (steps.earlier ++ (steps.kept ++ steps.pending) ∷ []) ≡ now abstract.config
+  pub now_is : source (translation_of y) (steps.earlier ++ (steps.kept ++ harts_of steps.pending) ∷ []) ≡ now abstract.config
   now_is =
-      source_is y s w steps resumes (steps.kept ++ steps.pending)
-      ∙ ((goes_on from steps.kept steps.pending (kept_from y s w steps resumes).0).after
+      source_is y s w steps resumes (steps.kept ++ harts_of steps.pending)
+      ∙ ((goes_on from steps.kept (harts_of steps.pending) (kept_from y s w steps resumes).0).after
       ∙ ap₂ m.after_from (kept_from y s w steps resumes).1 resumes.is.counted.pending)
 
   -- mutexes are held as in the graph's states

@@ -1,6 +1,6 @@
 -- Each hart of a compiled program soon begins the next step of its thread, or stops: what the simulation says is ahead of it falls with each of its active
 -- steps, and where it has stopped, as much may be ahead as at most, since another life may begin.
-use Rattle.std.proofs.Common.{◌≡◌, ◌⊎◌, inl, inr, refl, ℕ, suc, ◌<◌, ◌≤◌, List, [], ◌∷◌, ◌++◌, length, ap, arith, sym, ◌∙◌, subst, Option, Some, None}
+use Rattle.std.proofs.Common.{◌≡◌, ◌⊎◌, inl, inr, refl, ℕ, suc, ◌<◌, ◌≤◌, List, [], ◌∷◌, length, ap, arith, sym, ◌∙◌, subst, Option, Some, None}
 use Rattle.std.proofs.Common.{Bool, true, false, slice_get, ◌==◌, ◌&&◌, ◌-◌, not}
 use Rattle.std.proofs.lemmas.Bool.{and_parts, cases_eq, cases_Bool, ne_eqb, true≢false}
 use Rattle.std.proofs.lemmas.Option.{none-some, same_Some, slice_get_within}
@@ -28,7 +28,7 @@ use Rattle.crash_simulation.proofs.Public.{start_simulates, phase_of, GoesOn, ev
 use Rattle.compiler_correctness.specs.Translations.{GoOn, HaveNoCrash, Translation, steps, world}
 use Rattle.compiler_correctness.specs.Delays.{is_active_step, active_steps, begun_by, has_waited, IsStopped, GetsOn, GetsOnAmong, delay}
 use Rattle.compiler_correctness.specs.Laws.{DelaysAreBounded, translation_of}
-use Rattle.compiler_correctness.proofs.ImageWords.{is_run, stands_along}
+use Rattle.compiler_correctness.proofs.ImageWords.{stands_along}
 use Rattle.compiler_correctness.proofs.MachineLockstep.{nothing_starts}
 use Rattle.compiler_correctness.proofs.MarksReached as nearing
 
@@ -314,7 +314,7 @@ pub gets_on_after : (c : Translation) (events more : List Event) (h : ℕ) → l
     IsWellFormedWorld (world c events) → GoOn more → GetsOnAmong c.runs (world c events) more h → GetsOn c events more h
 gets_on_after c events more h count sound on among =
     let first = first_world c.runs in
-    let account : Steps = first_steps (length c.runs.program) (only_life []) in
+    let account : Steps = first_steps (only_life []) in
     elim (nearing.begun_among c.runs h more (world c events) (steps c events) count sound on among) [
       | inl begun ↦
           inl (subst (λ (z : Steps). begun_by (steps c events) h < begun_by z h) (sym (steps_join c.runs.marks c.runs.program events more first account)) begun)

@@ -1,7 +1,7 @@
 -- A run that is begun from an image is the one in which power is lost.
-use Rattle.std.proofs.Common.{◌≡◌, refl, ℕ, zero, suc, List, [], ◌∷◌, ◌++◌, length, map, sym, ◌∙◌, ap, ap₂, subst, Bool, true, false, replicate}
+use Rattle.std.proofs.Common.{◌≡◌, refl, ℕ, zero, suc, List, [], ◌∷◌, ◌++◌, length, map, sym, ◌∙◌, ap, ap₂, subst, Bool, true, false}
 use Rattle.std.specs.Prelude.{if◌then◌else◌}
-use Rattle.std.proofs.lemmas.List.{append-nil, append_assoc, length-set, length-replicate}
+use Rattle.std.proofs.lemmas.List.{append-nil, append_assoc, length-replicate}
 use Rattle.machine_model.proofs.Public.{first_stays, log_stays, queues_stand, starts_simulate}
 use Rattle.log_schemes.specs.declared.log.Log.{Log}
 use Rattle.machine_events.specs.declared.event.Event.{Event}
@@ -11,13 +11,13 @@ use Rattle.c_tree.specs.Source.{is_between}
 use Rattle.rv64_isa.specs.declared.object.Slot.{Slot}
 use Rattle.machine_model.specs.Executables.{first_world}
 use Rattle.machine_model.specs.Machine.{World, can_start, is_settled, start_of, after_crash_of, happens, after_event, after_events}
-use Rattle.machine_model.specs.Schedule.{Steps, HartSteps, no_steps, passes_mark, stores_point, with_begun, with_bound, with_kept, with_all_kept, with_step}
+use Rattle.machine_model.specs.Schedule.{Steps, passes_mark, stores_point, with_begun, with_stored, with_kept, with_all_kept, with_step}
 use Rattle.machine_model.specs.Schedule.{HaveNoStart, begins_life, next_life}
 use Rattle.machine_model.specs.Schedule.{LifeSchedules, all_lives, kept_lives, only_life, schedules, steps_after, steps_along, first_steps}
 use Rattle.machine_model.specs.Frames.{IsWellFormedWorld}
 use Rattle.variable_words.specs.Variables.{durable_variables}
 use Rattle.log_states.specs.Logs.{point_in}
-use Rattle.crash_simulation.proofs.Public.{counted_by, count_same, mutexes_stay, worlds_join, steps_join}
+use Rattle.crash_simulation.proofs.Public.{counted_by, mutexes_stay, worlds_join, steps_join}
 use Rattle.compiler_correctness.specs.Translations.{Translation, world, steps, source, IsRunnable}
 use Rattle.compiler_correctness.specs.Compilation.{BeginLives}
 use Rattle.compiler_correctness.specs.Images.{image_of, first_from, world_from, steps_from, IsCrashed}
@@ -70,7 +70,7 @@ module _ (prefix : List ℕ) where
   counted_prefixed : (begun points : Bool) (h position : ℕ) (s : Steps) →
       counted_by begun points h position (prefixed prefix s) ≡ prefixed prefix (counted_by begun points h position s)
   counted_prefixed true false h position s = begun_prefixed h s
-  counted_prefixed true true h position s = ap (with_bound h position) (begun_prefixed h s)
+  counted_prefixed true true h position s = ap (with_stored h position) (begun_prefixed h s)
   counted_prefixed false false h position s = refl
   counted_prefixed false true h position s = refl
 
@@ -80,10 +80,10 @@ module _ (prefix : List ℕ) where
     unfolding steps_after
     event_prefixed w (Step h) s none =
         let words = (after_event program w (Step h)).words in
-        ap (with_all_kept w.log words (length s.harts))
+        ap (with_all_kept w.log words (length program))
         (counted_prefixed (passes_mark marks program w h) (stores_point program w (Step h) h) h (last_position (point_in w.log words h)) s)
-        ∙ kept_prefixed w.log words (length s.harts) (with_step marks program w h s)
-    event_prefixed w (Evict line mask) s none = kept_prefixed w.log (after_event program w (Evict line mask)).words (length s.harts) s
+        ∙ kept_prefixed w.log words (length program) (with_step marks program w h s)
+    event_prefixed w (Evict line mask) s none = kept_prefixed w.log (after_event program w (Evict line mask)).words (length program) s
     event_prefixed w Crash s none = refl
     event_prefixed w Start s none =
         ap (λ (may : Bool). if may then next_life (prefixed prefix s) else prefixed prefix s) none
@@ -123,31 +123,6 @@ module _ (marks : List (List ℕ)) (program : List (List Slot)) where
       (subst (λ (z : Steps). IsPrefixed (steps_after marks program w event s) (steps_after marks program w event z)) (sym first.is)
       (event_stays_prefixed first.prefix w event s))
 
--- ---- As many accounts as harts
-
-kept_many : (log : Log) (words : List Word) (count : ℕ) (s : Steps) → length (with_all_kept log words count s).harts ≡ length s.harts
-kept_many log words zero s = refl
-kept_many log words (suc h) s = length-set (with_all_kept log words h s).harts h _ ∙ kept_many log words h s
-
-module _ (marks : List (List ℕ)) (program : List (List Slot)) where
-  event_many : (w : World) (event : Event) (s : Steps) → length (steps_after marks program w event s).harts ≡ length s.harts
-  unfolding steps_after
-  event_many w (Step h) s =
-      let words = (after_event program w (Step h)).words in
-      kept_many w.log words (length s.harts) (with_step marks program w h s)
-      ∙ count_same (passes_mark marks program w h) (stores_point program w (Step h) h) h (last_position (point_in w.log words h)) s
-  event_many w (Evict line mask) s = kept_many w.log (after_event program w (Evict line mask)).words (length s.harts) s
-  event_many w Crash s = length-replicate (length s.harts) no_steps
-  event_many w Start s = by (can_start w)
-    where
-      by : (may : Bool) → length (if may then next_life s else s).harts ≡ length s.harts
-      by true = length-replicate (length s.harts) no_steps
-      by false = refl
-
-  along_many : (events : List Event) (w : World) (s : Steps) → length (steps_along marks program w events s).harts ≡ length s.harts
-  along_many [] w s = refl
-  along_many (event ∷ events) w s = along_many events (after_event program w event) (steps_after marks program w event s) ∙ event_many w event s
-
 -- ---- The crash
 
 module _ (c : Translation) (before : List Event) where
@@ -159,13 +134,10 @@ module _ (c : Translation) (before : List Event) where
   crash_is = ap₂ (λ (l : Log) (locks : ℕ). after_crash_of l c.runs.program locks (map durable_value (world c before).words)) has.log has.holders
 
   dropped_is : steps_after c.runs.marks c.runs.program (world c before) Crash (steps c before) ≡
-      prefixed (steps c before).begun (first_steps (length c.runs.program) (kept_lives (steps c before)))
+      prefixed (steps c before).begun (first_steps (kept_lives (steps c before)))
   unfolding steps_after
   dropped_is =
-      let many = along_many c.runs.marks c.runs.program before (first_world c.runs) (first_steps (length c.runs.program) (only_life []))
-      ∙ length-replicate (length c.runs.program) no_steps in
-      ap₂ (λ (begun : List ℕ) (harts : List HartSteps). record (steps c before) { begun = begun; pending = []; harts = harts })
-      (sym (append-nil (steps c before).begun)) (ap (λ (n : ℕ). replicate n no_steps) many)
+      ap (λ (begun : List ℕ). let z : Steps = record (steps c before) { begun = begun; pending = [] } in z) (sym (append-nil (steps c before).begun))
 
   module _ (events : List Event) where
     world_same : world_from c (image_of c before) events ≡ world c (before ++ Crash ∷ events)
@@ -176,20 +148,20 @@ module _ (c : Translation) (before : List Event) where
     -- the account where power is lost then, in the words of the other one's beginning
     steps_join_here : steps c (before ++ Crash ∷ events)
         ≡ steps_along c.runs.marks c.runs.program (first_from c (image_of c before)) events
-        (prefixed (steps c before).begun (first_steps (length c.runs.program) (kept_lives (steps c before))))
+        (prefixed (steps c before).begun (first_steps (kept_lives (steps c before))))
     steps_join_here =
-        steps_join c.runs.marks c.runs.program before (Crash ∷ events) (first_world c.runs) (first_steps (length c.runs.program) (only_life []))
+        steps_join c.runs.marks c.runs.program before (Crash ∷ events) (first_world c.runs) (first_steps (only_life []))
         ∙ ap₂ (λ (w : World) (s : Steps). steps_along c.runs.marks c.runs.program w events s) crash_is dropped_is
 
     steps_same : HaveNoStart events → prefixed (steps c before).begun (steps_from c (image_of c before) events) ≡ steps c (before ++ Crash ∷ events)
     steps_same none =
         sym (steps_join_here
         ∙ along_prefixed (steps c before).begun c.runs.marks c.runs.program events (first_from c (image_of c before))
-        (first_steps (length c.runs.program) (kept_lives (steps c before))) none)
+        (first_steps (kept_lives (steps c before))) none)
 
     steps_prefixed : IsPrefixed (steps_from c (image_of c before) events) (steps c (before ++ Crash ∷ events))
     steps_prefixed =
-        let first = first_steps (length c.runs.program) (kept_lives (steps c before)) in
+        let first = first_steps (kept_lives (steps c before)) in
         subst (IsPrefixed (steps_from c (image_of c before) events)) (sym steps_join_here)
         (along_stays_prefixed c.runs.marks c.runs.program events (first_from c (image_of c before)) first (prefixed (steps c before).begun first)
         (record { prefix = (steps c before).begun; is = refl }))

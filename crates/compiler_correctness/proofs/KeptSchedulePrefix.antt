@@ -33,7 +33,7 @@ all_kept log words zero s = itself s.kept
 all_kept log words (suc h) s =
     further s.kept (with_all_kept log words h s).kept (with_all_kept log words (suc h) s).kept (record { rest = _; is = refl }) (all_kept log words h s)
 
--- what a step begins and binds keeps nothing
+-- what a step begins or stores keeps nothing
 step_kept : (marks : List (List ℕ)) (program : List (List Slot)) (w : World) (h : ℕ) (s : Steps) → (with_step marks program w h s).kept ≡ s.kept
 step_kept marks program w h s = kept_same (passes_mark marks program w h) (stores_point program w (Step h) h) h _ s
 
@@ -42,8 +42,8 @@ event_grows : (marks : List (List ℕ)) (program : List (List Slot)) (w : World)
 unfolding steps_after
 event_grows marks program w (Step h) s none =
     subst (λ (prefix : List ℕ). BeginsWith (steps_after marks program w (Step h) s).kept prefix) (step_kept marks program w h s)
-    (all_kept w.log (after_event program w (Step h)).words (length s.harts) (with_step marks program w h s))
-event_grows marks program w (Evict line mask) s none = all_kept w.log (after_event program w (Evict line mask)).words (length s.harts) s
+    (all_kept w.log (after_event program w (Step h)).words (length program) (with_step marks program w h s))
+event_grows marks program w (Evict line mask) s none = all_kept w.log (after_event program w (Evict line mask)).words (length program) s
 event_grows marks program w Crash s none = itself s.kept
 event_grows marks program w Start s none =
     subst (λ (may : Bool). BeginsWith (if may then next_life s else s).kept s.kept) (sym none) (itself s.kept)
@@ -98,4 +98,4 @@ module _ (marks : List (List ℕ)) (program : List (List Slot)) where
 
 pub kept_steps_grow : KeptStepsGrow
 kept_steps_grow c events more =
-    grow c.runs.marks c.runs.program events more (first_world c.runs) (first_steps (length c.runs.program) (only_life []))
+    grow c.runs.marks c.runs.program events more (first_world c.runs) (first_steps (only_life []))

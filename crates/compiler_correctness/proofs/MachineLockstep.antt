@@ -111,10 +111,10 @@ pub begun_after : (y : System) (w : World) (event : Event) → KeepsOn event →
 unfolding steps_after
 begun_after y w (Step h) on steps =
     let after : World = after_event y.runs.program w (Step h) in
-    kept_begun w.log after.words (length steps.harts) (with_step y.runs.marks y.runs.program w h steps)
+    kept_begun w.log after.words (length y.runs.program) (with_step y.runs.marks y.runs.program w h steps)
     ∙ begun_is (passes_mark y.runs.marks y.runs.program w h) (stores_point y.runs.program w (Step h) h) h (last_position (point_in w.log after.words h)) steps
 begun_after y w (Evict line mask) on steps =
-    kept_begun w.log (after_event y.runs.program w (Evict line mask)).words (length steps.harts) steps ∙ sym (append-nil steps.begun)
+    kept_begun w.log (after_event y.runs.program w (Evict line mask)).words (length y.runs.program) steps ∙ sym (append-nil steps.begun)
 begun_after y w Crash on steps = absurd on
 begun_after y w Start on steps = absurd on
 
@@ -255,7 +255,7 @@ module _ (fragments_step : FragmentsStep) (cores_step : CoresStep) (law : Fragme
   all_going [] w steps releases going = (releases, going)
   all_going (event ∷ events) w steps releases going = all_going events _ _ _ (each_going w steps releases going event)
 
-start_going : (y : System) (s : IsSystem y) → Going y s (first_world y.runs) (first_steps (length y.runs.program) (only_life [])) (λ n. 0)
+start_going : (y : System) (s : IsSystem y) → Going y s (first_world y.runs) (first_steps (only_life [])) (λ n. 0)
 start_going y s =
     let new = has_begun y s (first_origin y s) (first_world y.runs) (first_life y s) in
     record {

@@ -62,10 +62,10 @@ module _ (marks : List (List ℕ)) (program : List (List Slot)) (h : ℕ) where
   unfolding steps_after
   after_more w (Step g) s on =
       let more = step_more (passes_mark marks program w g) (stores_point program w (Step g) g) h g (position_of w g) s in
-      let kept = count_kept w.log (after_event program w (Step g)).words (length s.harts) (with_step marks program w g s) in
+      let kept = count_kept w.log (after_event program w (Step g)).words (length program) (with_step marks program w g s) in
       omega (arith, more, kept)
   after_more w (Evict line mask) s on =
-      let kept = count_kept w.log (after_event program w (Evict line mask)).words (length s.harts) s in
+      let kept = count_kept w.log (after_event program w (Evict line mask)).words (length program) s in
       omega (arith, kept)
   after_more w Crash s on = absurd on
   after_more w Start s on = absurd on
@@ -73,7 +73,7 @@ module _ (marks : List (List ℕ)) (program : List (List Slot)) (h : ℕ) where
   after_own : (w : World) (s : Steps) → passes_mark marks program w h ≡ true → begun_by s h < begun_by (steps_after marks program w (Step h) s) h
   unfolding steps_after
   after_own w s passes =
-      let kept = count_kept w.log (after_event program w (Step h)).words (length s.harts) (with_step marks program w h s) in
+      let kept = count_kept w.log (after_event program w (Step h)).words (length program) (with_step marks program w h s) in
       let more = own_more (stores_point program w (Step h) h) h (position_of w h) s in
       let same : begun_by (counted_by (passes_mark marks program w h) (stores_point program w (Step h) h) h (position_of w h) s) h ≡
       begun_by (counted_by true (stores_point program w (Step h) h) h (position_of w h) s) h =

@@ -25,7 +25,7 @@ use Rattle.ido_base.specs.Locks.{has_lock, holds_none}
 use Rattle.c_tree.specs.Source as m
 use Rattle.recovery_semantics.specs.Configs.{now}
 use Rattle.recovery_semantics.specs.Laws.{LastUnlocks, HasUnlocked}
-use Rattle.machine_model.specs.Schedule.{LifeSchedules, Steps, schedules}
+use Rattle.machine_model.specs.Schedule.{LifeSchedules, Steps, harts_of, schedules}
 use Rattle.source_machine.specs.Mutexes.{locks}
 use Rattle.thread_runs.specs.Laws.{MarksPass}
 use Rattle.recovered_threads.specs.RecoveryStates.{Gathers}
@@ -193,13 +193,13 @@ module _ (y : System) (s : IsSystem y) (w : World) (account : Steps) {r : ℕ �
 
   -- by the account's schedule
   last_unlocked : (mutex : ℕ) → (stands.ghosts h).giving ≡ Some mutex →
-      LastUnlocks (source_at (translation_of y) account.earlier) (account.kept ++ account.pending) h mutex
+      LastUnlocks (source_at (translation_of y) account.earlier) (account.kept ++ harts_of account.pending) h mutex
   last_unlocked mutex gives =
       let b = stands.abstract in
       let code = s.codes.each h below in
-      let lists : b.schedule ++ b.config.uncommitted ≡ account.kept ++ account.pending =
+      let lists : b.schedule ++ b.config.uncommitted ≡ account.kept ++ harts_of account.pending =
       ap₂ ◌++◌ (sym (schedule_is y s w account resumes)) (sym resumes.is.counted.pending) in
-      subst (λ (from : m.State). LastUnlocks from (account.kept ++ account.pending) h mutex) (begins_at y s w account resumes)
+      subst (λ (from : m.State). LastUnlocks from (account.kept ++ harts_of account.pending) h mutex) (begins_at y s w account resumes)
       (subst (λ (us : List ℕ). LastUnlocks b.origin.source us h mutex) lists
       (subst (λ (n : ℕ). LastUnlocks b.origin.source (b.schedule ++ b.config.uncommitted) n mutex) (s.codes.number h below)
       (unlocked_last y s w b code (stands.ghosts h) (stands.each h below) mutex gives)))

@@ -1,5 +1,5 @@
 -- A machine that begins with words whose records describe an origin runs on, and leaves what the source leaves from there.
-use Rattle.std.proofs.Common.{◌≡◌, ◌++◌, length, ap, sym, ◌∙◌}
+use Rattle.std.proofs.Common.{◌≡◌, ◌++◌, ap, sym, ◌∙◌}
 use Rattle.c_tree.specs.Source.{State, is_between}
 use Rattle.machine_model.specs.Schedule.{LifeSchedules, kept_lives}
 use Rattle.thread_runs.specs.Laws.{FragmentsGoOn}

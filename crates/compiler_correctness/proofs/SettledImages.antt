@@ -1,7 +1,7 @@
 -- Lives that go on from a settled image: until another one begins nothing happens, and that one begins as after the kept schedules.
-use Rattle.std.proofs.Common.{◌≡◌, ◌≢◌, inl, inr, refl, ℕ, zero, suc, ◌+◌, ◌<◌, ◌⊎◌, List, [], ◌∷◌, ◌++◌, length, map, replicate, ap, ap₂, arith, sym, ◌∙◌}
-use Rattle.std.proofs.Common.{subst, ℤ, Bool, true, false, ◌&&◌, ◌==◌, Option, Some, None, slice_get, slice_index_or, slice_set, append-nil, length-append}
-use Rattle.std.specs.Prelude.{filter, if◌then◌else◌, nat_lt}
+use Rattle.std.proofs.Common.{◌≡◌, ◌≢◌, inl, inr, refl, ℕ, zero, suc, ◌+◌, ◌<◌, List, [], ◌∷◌, ◌++◌, length, map, ap, ap₂, arith, sym, ◌∙◌}
+use Rattle.std.proofs.Common.{subst, ℤ, Bool, true, false, ◌&&◌, ◌==◌, Option, Some, None, slice_get, append-nil, length-append}
+use Rattle.std.specs.Prelude.{if◌then◌else◌}
 use Rattle.std.proofs.lemmas.Bool.{and_parts, cases_lt, true≢false}
 use Rattle.std.proofs.lemmas.List.{length-replicate}
 use Rattle.std.proofs.lemmas.Option.{same_Some, slice_get_within}
@@ -23,9 +23,9 @@ use Rattle.machine_model.specs.declared.phase.Phase.{Phase}
 use Rattle.machine_model.specs.declared.phase.Phase.TheVariants.{Take, Run, Done, Ended}
 use Rattle.machine_model.specs.Machine.{Hart, World, after_crash_of, after_event, after_events, can_start, durable_point, fresh_hart, happens}
 use Rattle.machine_model.specs.Machine.{is_settled, live_at, phase_after_crash, phase_step, record_of, recorded, reply_to, stepped}
-use Rattle.machine_model.specs.Schedule.{HartSteps, LifeSchedules, Steps, all_lives, completing, durable_steps, effect_at, first_steps, has_moved, is_mark}
-use Rattle.machine_model.specs.Schedule.{is_point_store, is_running, next_life, no_steps, passes_mark, released_along, released_count, schedules, steps_after}
-use Rattle.machine_model.specs.Schedule.{steps_along, stores_point, with_all_kept, with_kept, with_step, without}
+use Rattle.machine_model.specs.Schedule.{LifeSchedules, Steps, all_lives, completing, effect_at, first_steps, has_moved, is_mark}
+use Rattle.machine_model.specs.Schedule.{is_point_store, is_running, next_life, passes_mark, released_along, released_count, schedules, steps_after}
+use Rattle.machine_model.specs.Schedule.{steps_along, stores_point, with_all_kept, with_kept, with_step}
 use Rattle.recovered_threads.proofs.Public.{holds_none_is}
 use Rattle.flow_graph.proofs.Public.{get_cases}
 use Rattle.variable_words.specs.Variables.{durable_variables}
@@ -87,40 +87,15 @@ durable_same (w ∷ ws) = ap (λ (rest : List ℕ). w ∷ rest) (durable_same ws
 live_same : (ws : List ℕ) (j : ℕ) → live_value (word_at (map word_of ws) j) ≡ durable_value (word_at (map word_of ws) j)
 live_same ws j = let past = no_past ws j in ap live_value past.1 ∙ sym (ap durable_value past.1)
 
--- ---- An account of harts that have begun nothing
+-- ---- An account with nothing pending
 
-none_at : (n h : ℕ) → slice_index_or (replicate n no_steps) h no_steps ≡ no_steps
-none_at zero h = refl
-none_at (suc n) zero = refl
-none_at (suc n) (suc h) = none_at n h
-
-none_set : (n h : ℕ) → slice_set (replicate n no_steps) h no_steps ≡ replicate n no_steps
-none_set zero h = refl
-none_set (suc n) zero = refl
-none_set (suc n) (suc h) = ap (λ (rest : List HartSteps). no_steps ∷ rest) (none_set n h)
-
-module _ (threads : ℕ) (kept : LifeSchedules) where
+module _ (kept : LifeSchedules) where
   abbrev before : Steps
-  before = first_steps threads kept
-
-  module _ (log : Log) (ws : List Word) (h : ℕ) where
-    abbrev durable : ℕ
-    durable = (word_at ws (word_number (point_at log h))).durable
-
-    -- with what is bound of this hart
-    abbrev kept_by : HartSteps → Steps
-    kept_by x = record before {
-      kept = before.kept ++ replicate (durable_steps durable x.bound) h;
-      pending = without h (durable_steps durable x.bound) before.pending;
-      harts = slice_set before.harts h (record { free = x.free; bound = filter (λ b. nat_lt durable b.position) x.bound });
-    }
-
-    keeps_none : with_kept log ws h before ≡ before
-    keeps_none = ap kept_by (none_at threads h) ∙ (λ i. record before { kept = append-nil before.kept i; harts = none_set threads h i })
+  before = first_steps kept
 
   all_keep_none : (log : Log) (ws : List Word) (count : ℕ) → with_all_kept log ws count before ≡ before
   all_keep_none log ws zero = refl
-  all_keep_none log ws (suc h) = ap (with_kept log ws h) (all_keep_none log ws h) ∙ keeps_none log ws h
+  all_keep_none log ws (suc h) = ap (with_kept log ws h) (all_keep_none log ws h) ∙ (λ i. record before { kept = append-nil before.kept i })
 
 -- ---- The source after the schedules
 
@@ -197,7 +172,7 @@ module _ (y : System) (s : IsSystem y) (o : Origin (flat_of y)) (image : Image) 
   w0 = first_from c image
 
   abbrev s0 : Steps
-  s0 = first_steps (length y.runs.program) kept
+  s0 = first_steps kept
 
   abbrev g0 : Beginning
   g0 = record { from = o.source; earlier = kept.earlier; kept = kept.schedule }
@@ -324,17 +299,17 @@ module _ (y : System) (s : IsSystem y) (o : Origin (flat_of y)) (image : Image) 
   unfolding steps_after
   step_account h =
       let ws = (after_event y.runs.program w0 (Step h)).words in
-      ap (λ (z : Steps). with_all_kept w0.log ws (length s0.harts) z) (accounts_nothing h)
-      ∙ all_keep_none (length y.runs.program) kept w0.log ws (length s0.harts)
+      ap (λ (z : Steps). with_all_kept w0.log ws (length y.runs.program) z) (accounts_nothing h)
+      ∙ all_keep_none kept w0.log ws (length y.runs.program)
 
   evict_account : (line mask : ℕ) → account (Evict line mask) ≡ s0
   unfolding steps_after
   evict_account line mask =
-      all_keep_none (length y.runs.program) kept w0.log (after_event y.runs.program w0 (Evict line mask)).words (length s0.harts)
+      all_keep_none kept w0.log (after_event y.runs.program w0 (Evict line mask)).words (length y.runs.program)
 
   crash_account : account Crash ≡ s0
   unfolding steps_after
-  crash_account = ap (λ (n : ℕ). let z : Steps = record s0 { harts = replicate n no_steps } in z) (length-replicate (length y.runs.program) no_steps)
+  crash_account = refl
 
   next_account : can_start w0 ≡ true → account Start ≡ next_life s0
   unfolding steps_after
@@ -412,7 +387,6 @@ module _ (y : System) (s : IsSystem y) (o : Origin (flat_of y)) (image : Image) 
                 ap (λ (z : Steps). z.kept) (next_account may)
                 ∙ sym (ap₂ (λ (a b : List ℕ). a ++ b) (kept_after y first (all_lives kept) refl) no_schedule_then);
             pending = z1.is.counted.pending;
-            count = z1.is.counted.count;
             each = z1.is.counted.each;
             beyond = z1.is.counted.beyond;
           };
@@ -560,7 +534,7 @@ settled_images_go_on counted marks fragments_step cores_step law y s o image fro
       records = records y s o image from settled counted fragments_step cores_step law marks w account r carries;
       resumed = record {
         runs = runs y s o image from settled counted fragments_step cores_step law marks w account r carries;
-        grows = along_lives y.runs.marks y.runs.program events (first_from c image) (first_steps (length y.runs.program) image.kept);
+        grows = along_lives y.runs.marks y.runs.program events (first_from c image) (first_steps image.kept);
         between = between y s o image from settled counted fragments_step cores_step law marks w account r carries;
         variables = variables y s o image from settled counted fragments_step cores_step law marks w account r carries;
       };

@@ -33,7 +33,7 @@ module _ (c : Translation) (image : Image) where
 
   -- the account of its steps goes on after those that were kept
   abbrev pub steps_from : List Event → Steps
-  steps_from events = steps_along c.runs.marks c.runs.program first_from events (first_steps (length c.runs.program) image.kept)
+  steps_from events = steps_along c.runs.marks c.runs.program first_from events (first_steps image.kept)
 
 -- the run from the image that the machine would leave is the one in which power is lost then
 pub record IsCrashed (c : Translation) (before events : List Event) : Type 0 where

@@ -1,5 +1,5 @@
 -- What a compiler makes of a flat form, and what events make of that.
-use Rattle.std.specs.Prelude.{◌≡◌, ℕ, List, [], ◌∷◌, ◌++◌, length, slice_index_or, true}
+use Rattle.std.specs.Prelude.{◌≡◌, ℕ, List, [], ◌∷◌, ◌++◌, slice_index_or, true}
 use Rattle.machine_events.specs.declared.event.Event.{Event}
 use Rattle.machine_events.specs.declared.event.Event.TheVariants.{Step, Evict, Crash, Start}
 use Rattle.c_tree.specs.Flats as f
@@ -8,7 +8,7 @@ use Rattle.machine_model.specs.declared.object.Object.{Object}
 use Rattle.rv64_isa.specs.declared.object.Marks.{Marks}
 use Rattle.machine_model.specs.Executables.{Executable, executable_of, first_world}
 use Rattle.machine_model.specs.Machine.{World, after_events}
-use Rattle.machine_model.specs.Schedule.{KeepsOn, Steps, LifeSchedules, only_life, steps_along, first_steps}
+use Rattle.machine_model.specs.Schedule.{KeepsOn, Steps, harts_of, LifeSchedules, only_life, steps_along, first_steps}
 use Rattle.source_machine.specs.Lives.{after_lives, runs_lives, begun_after}
 use Rattle.flow_graph.specs.declared.cuts.Cuts.{Cuts}
 use Rattle.flow_graph.specs.IdempotentCuts.{Boundaries, boundaries_of}
@@ -43,7 +43,7 @@ begun_lives s = record { earlier = s.earlier; schedule = s.begun }
 
 -- the kept schedules, the last one followed by the steps begun since this life's start or the last crash and not kept
 abbrev pub now_lives : Steps → LifeSchedules
-now_lives s = record { earlier = s.earlier; schedule = s.kept ++ s.pending }
+now_lives s = record { earlier = s.earlier; schedule = s.kept ++ harts_of s.pending }
 
 module _ (c : Translation) where
   abbrev pub marks_of : (thread : ℕ) → List ℕ
@@ -58,7 +58,7 @@ module _ (c : Translation) where
 
   -- the steps of the source that are begun and kept then
   abbrev pub steps : List Event → Steps
-  steps events = steps_along c.runs.marks c.runs.program (first_world c.runs) events (first_steps (length c.runs.program) (only_life []))
+  steps events = steps_along c.runs.marks c.runs.program (first_world c.runs) events (first_steps (only_life []))
 
   -- all steps that are kept then, and after them those that are begun and not kept
   abbrev pub now : List Event → LifeSchedules

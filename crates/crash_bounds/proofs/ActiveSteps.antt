@@ -164,7 +164,7 @@ module _ (program : List (List Slot)) (h : ℕ) where
 
 pub gained : (c : Translation) (events more : List Event) → GoOn more → Gains (steps c events) (steps c (events ++ more))
 gained c events more on =
-    let first = first_steps (length c.runs.program) (only_life []) in
+    let first = first_steps (only_life []) in
     subst (λ (t : Steps). Gains (steps c events) t) (sym (steps_both c.runs.marks c.runs.program events more (first_world c.runs) first))
     (gains c.runs.marks c.runs.program more (world c events) (steps c events) on)
 

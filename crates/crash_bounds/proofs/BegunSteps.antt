@@ -1,8 +1,8 @@
 -- What the account of a life gains by events without a crash: begun steps come to the end, and each of them is pending or kept.
-use Rattle.std.proofs.Common.{◌≡◌, ◌≢◌, refl, ℕ, zero, suc, ◌+◌, ◌≤◌, List, [], ◌∷◌, ◌++◌, length, replicate, ap, sym, ◌∙◌, arith}
-use Rattle.std.proofs.Common.{append-nil, append_assoc, cond, Bool, true, ◌==◌, filter}
+use Rattle.std.proofs.Common.{◌≡◌, ◌≢◌, refl, ℕ, zero, suc, ◌+◌, ◌≤◌, List, [], ◌∷◌, ◌++◌, length, ap, sym, ◌∙◌, arith}
+use Rattle.std.proofs.Common.{append-nil, append_assoc, cond, Bool, true, None, ◌==◌, filter}
 use Rattle.std.proofs.lemmas.Bool.{cond_both, ne_eqb}
-use Rattle.std.proofs.lemmas.List.{length-replicate}
+use Rattle.std.proofs.lemmas.List.{length-map}
 use Rattle.std.proofs.lemmas.List.Elements.{filter-append}
 use Rattle.std.proofs.Math.ListN.{length-append}
 use Rattle.log_schemes.specs.declared.log.Log.{Log}
@@ -13,8 +13,9 @@ use Rattle.ido_base.specs.Layout.{word_number}
 use Rattle.log_schemes.specs.Layout.{point_at}
 use Rattle.rv64_isa.specs.declared.object.Slot.{Slot}
 use Rattle.machine_model.specs.Machine.{World, after_event}
-use Rattle.machine_model.specs.Schedule.{KeepsOn, Steps, with_begun, with_bound, with_kept, with_all_kept, with_step, without, durable_steps, hart_steps}
+use Rattle.machine_model.specs.Schedule.{KeepsOn, PendingStep, Steps, harts_of, with_begun, then_stored, with_stored, is_durable, with_kept, with_all_kept, with_step}
 use Rattle.machine_model.specs.Schedule.{steps_after, steps_along, passes_mark, stores_point}
+use Rattle.machine_model.proofs.Public.{length_parts}
 use Rattle.compiler_correctness.specs.Translations.{GoOn}
 use Rattle.compiler_correctness.specs.Delays.{begun_by}
 
@@ -63,42 +64,34 @@ begins h s = record {
   begun = refl;
   kept = sym (append-nil s.kept);
   earlier = refl;
-  none_lost = let more = length-append s.pending (h ∷ []) in omega (arith, more);
+  none_lost = let more = length-append s.pending (record { hart = h; stored = None } ∷ []) in omega (arith, more);
 }
 
-binds : (h position : ℕ) (s t : Steps) → Gains s t → Gains s (with_bound h position t)
-binds h position s t a = record {
+stores : (h position : ℕ) (s t : Steps) → Gains s t → Gains s (with_stored h position t)
+stores h position s t a = record {
   new = a.new;
   kept_since = a.kept_since;
   begun = a.begun;
   kept = a.kept;
   earlier = a.earlier;
-  none_lost = a.none_lost;
+  none_lost = let same = length-map t.pending (then_stored h position) in let none = a.none_lost in omega (arith, same, none);
 }
-
-without_few : (h count : ℕ) (xs : List ℕ) → length xs ≤ count + length (without h count xs)
-without_few h count [] = omega arith
-without_few h zero (x ∷ xs) = omega arith
-without_few h (suc count) (x ∷ xs) =
-    cond_both (x == h) (without h count xs) (x ∷ without h (suc count) xs) (λ (ys : List ℕ). suc (length xs) ≤ suc count + length ys)
-    (λ _. let less = without_few h count xs in omega (arith, less))
-    (λ _. let less = without_few h (suc count) xs in omega (arith, less))
 
 keeps : (log : Log) (words : List Word) (h : ℕ) (s : Steps) → Gains s (with_kept log words h s)
 keeps log words h s = record {
   new = [];
-  kept_since = replicate count h;
+  kept_since = harts_of (filter test s.pending);
   begun = sym (append-nil s.begun);
   kept = refl;
   earlier = refl;
   none_lost =
-      let less = without_few h count s.pending in
-      let many = length-replicate count h in
-      omega (arith, less, many);
+      let parts = length_parts test s.pending in
+      let many = length-map (filter test s.pending) (λ (step : PendingStep). step.hart) in
+      omega (arith, parts, many);
 }
   where
-    count : ℕ
-    count = durable_steps (word_at words (word_number (point_at log h))).durable (hart_steps s h).bound
+    test : PendingStep → Bool
+    test = is_durable h (word_at words (word_number (point_at log h))).durable
 
 all_kept : (log : Log) (words : List Word) (count : ℕ) (s : Steps) → Gains s (with_all_kept log words count s)
 all_kept log words zero s = nothing s
@@ -112,16 +105,16 @@ module _ (marks : List (List ℕ)) (program : List (List Slot)) where
       let started : Steps = cond (passes_mark marks program w h) (with_begun h s) s in
       let first : Gains s started =
       cond_both (passes_mark marks program w h) (with_begun h s) s (λ (t : Steps). Gains s t) (λ _. begins h s) (λ _. nothing s) in
-      cond_both (stores_point program w (Step h) h) (with_bound h position started) started (λ (t : Steps). Gains s t)
-      (λ _. binds h position s started first) (λ _. first)
+      cond_both (stores_point program w (Step h) h) (with_stored h position started) started (λ (t : Steps). Gains s t)
+      (λ _. stores h position s started first) (λ _. first)
 
   event_gains : (w : World) (event : Event) (s : Steps) → KeepsOn event → Gains s (steps_after marks program w event s)
   unfolding steps_after
   event_gains w (Step h) s on =
       let stepped = with_step marks program w h s in
       further s stepped (steps_after marks program w (Step h) s) (steps_by w h s)
-      (all_kept w.log (after_event program w (Step h)).words (length s.harts) stepped)
-  event_gains w (Evict line mask) s on = all_kept w.log (after_event program w (Evict line mask)).words (length s.harts) s
+      (all_kept w.log (after_event program w (Step h)).words (length program) stepped)
+  event_gains w (Evict line mask) s on = all_kept w.log (after_event program w (Evict line mask)).words (length program) s
   event_gains w Crash s on = absurd on
   event_gains w Start s on = absurd on
 

@@ -1,17 +1,15 @@
 -- The steps of a thread that a crash would undo are those of its attempt, and at most the lock or unlock that ends it.
-use Rattle.std.proofs.Common.{◌≡◌, ◌≢◌, ◌⊎◌, inl, inr, refl, ℕ, suc, ◌+◌, ◌<◌, ◌≤◌, List, length}
-use Rattle.std.proofs.Common.{replicate, ap, sym, ◌∙◌, subst, arith, true, Option, Some, None}
+use Rattle.std.proofs.Common.{◌≡◌, ◌⊎◌, inl, inr, refl, ℕ, ◌+◌, ◌<◌}
+use Rattle.std.proofs.Common.{replicate, ap, sym, subst, arith, true, Option, Some, None}
 use Rattle.std.specs.Prelude.{slice_get}
 use Rattle.std.specs.Option.{option_map}
 use Rattle.std.proofs.lemmas.Bool.{cases_lt}
-use Rattle.machine_events.specs.declared.event.Event.{Event}
 use Rattle.c_tree.specs.Source.{State, runs_from}
 use Rattle.source_machine.specs.StepExchanges.{steps_of}
 use Rattle.source_machine.proofs.Public.{solo as solo_law}
-use Rattle.machine_model.specs.Schedule.{schedules}
 use Rattle.flow_graph.specs.Nodes.{Graph}
 use Rattle.flow_graph.specs.Lowering.{lowered, threads_nodes}
-use Rattle.flow_graph.specs.Actions.{GraphThread, FlowState}
+use Rattle.flow_graph.specs.Actions.{GraphThread}
 use Rattle.flow_graph.specs.Lockstep.{Matches}
 use Rattle.flow_graph.specs.Liveness.{NodeAt}
 use Rattle.flow_graph.specs.IdempotentCuts.{IsUnlock, unlocks, HasBefore, AreAtWrites, Writes}
@@ -27,7 +25,7 @@ use Rattle.crash_simulation.proofs.Public.{as_source, resumed}
 use Rattle.compiler_correctness.specs.Translations.{Translation, steps}
 use Rattle.compiler_correctness.specs.Laws.{translation_of}
 use Rattle.compiler_correctness.proofs.Public.{kept_is}
-use Rattle.crash_bounds.specs.Losses.{CrashesUndoOneStretch, UndoesOneStretch, kept_state, undone}
+use Rattle.crash_bounds.specs.Losses.{CrashesUndoOneStretch, kept_state, undone}
 
 -- ---- A node before which a boundary stands, at which a thread passes a mutex
 

@@ -4,6 +4,7 @@ use Rattle.std.specs.Prelude.{if◌then◌else◌}
 use Rattle.std.proofs.lemmas.Bool.{and_parts}
 use Rattle.std.proofs.lemmas.Nat.{mul-le}
 use Rattle.std.proofs.Math.ListN.{length-append}
+use Rattle.std.proofs.lemmas.List.{length-map}
 use Rattle.std.proofs.Math.Nat.{mul-suc}
 use Rattle.log_schemes.specs.declared.log.Log.{Log}
 use Rattle.machine_events.specs.declared.event.Event.{Event}
@@ -12,7 +13,7 @@ use Rattle.source_machine.specs.Lives.{after_lives, begun_after, end_lives}
 use Rattle.source_machine.proofs.Public.{after_life, runs_appended, runs_life}
 use Rattle.machine_model.specs.Executables.{first_world}
 use Rattle.machine_model.specs.Machine.{World}
-use Rattle.machine_model.specs.Schedule.{Steps}
+use Rattle.machine_model.specs.Schedule.{PendingStep, Steps, harts_of}
 use Rattle.compiler_correctness.specs.Translations.{Translation, GoOn, world, steps}
 use Rattle.compiler_correctness.specs.Delays.{delay}
 use Rattle.compiler_correctness.specs.Compilations.{IsCompilation}
@@ -88,15 +89,15 @@ module _ (c : Translation) (is : IsCompilation c) (locks : ℕ) (few : KeepsAtMo
     -- ---- A run of the source from the kept state
 
     abbrev behind : List ℕ
-    behind = since.kept_since ++ (steps c (events ++ more)).pending
+    behind = since.kept_since ++ harts_of (steps c (events ++ more)).pending
 
     abbrev begins : State
     begins = begun_after c.flat (start c.flat) (steps c events).earlier
 
-    regrouped : (steps c (events ++ more)).kept ++ (steps c (events ++ more)).pending ≡ (steps c events).kept ++ behind
+    regrouped : (steps c (events ++ more)).kept ++ harts_of (steps c (events ++ more)).pending ≡ (steps c events).kept ++ behind
     regrouped =
-        ap (λ (xs : List ℕ). xs ++ (steps c (events ++ more)).pending) since.kept
-        ∙ append_assoc (steps c events).kept since.kept_since (steps c (events ++ more)).pending
+        ap (λ (xs : List ℕ). xs ++ harts_of (steps c (events ++ more)).pending) since.kept
+        ∙ append_assoc (steps c events).kept since.kept_since (harts_of (steps c (events ++ more)).pending)
 
     record Runs : Type 0 where
       ends : end_lives c.flat (start c.flat) (steps c events).earlier ≡ true
@@ -106,12 +107,12 @@ module _ (c : Translation) (is : IsCompilation c) (locks : ℕ) (few : KeepsAtMo
     runs_now =
         let t : Steps = steps c (events ++ more) in
         let x = c.flat in
-        let parts = and_parts (end_lives x (start x) t.earlier) (runs_from (begun_after x (start x) t.earlier) (t.kept ++ t.pending))
-        (sym (runs_life x (start x) t.earlier (t.kept ++ t.pending)) ∙ (is.records (events ++ more)).now_runs) in
+        let parts = and_parts (end_lives x (start x) t.earlier) (runs_from (begun_after x (start x) t.earlier) (t.kept ++ harts_of t.pending))
+        (sym (runs_life x (start x) t.earlier (t.kept ++ harts_of t.pending)) ∙ (is.records (events ++ more)).now_runs) in
         record {
           ends = ap (end_lives x (start x)) (sym since.earlier) ∙ parts.0;
           runs = ap (runs_from begins) (sym regrouped)
-              ∙ (ap (λ (lives : List (List ℕ)). runs_from (begun_after x (start x) lives) (t.kept ++ t.pending)) (sym since.earlier) ∙ parts.1);
+              ∙ (ap (λ (lives : List (List ℕ)). runs_from (begun_after x (start x) lives) (t.kept ++ harts_of t.pending)) (sym since.earlier) ∙ parts.1);
         }
 
     kept_is : kept_state c events ≡ after_from begins (steps c events).kept
@@ -131,10 +132,11 @@ module _ (c : Translation) (is : IsCompilation c) (locks : ℕ) (few : KeepsAtMo
     begun_within : (most : ℕ) → EndsWithin c events most → all_begun_among c events more ≤ most
     begun_within most ends =
         let short = ends behind runs_behind in
-        let both = length-append since.kept_since (steps c (events ++ more)).pending in
+        let both = length-append since.kept_since (harts_of (steps c (events ++ more)).pending) in
+        let many = length-map (steps c (events ++ more)).pending (λ (step : PendingStep). step.hart) in
         let lost = since.none_lost in
         let new = all_begun_is in
-        omega (arith, short, both, lost, new)
+        omega (arith, short, both, many, lost, new)
 
   machine_ends : (events more : List Event) (most : ℕ) → EndsWithin c events most → AreEnabled c.runs.program (world c events) more →
       length more ≤ step_bound c (world c events) locks most

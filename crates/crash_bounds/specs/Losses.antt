@@ -1,16 +1,16 @@
 -- What a crash would undo: of each thread the steps that have begun and aren't kept.
-use Rattle.std.specs.Prelude.{◌≡◌, ℕ, ◌+◌, ◌<◌, List, length, replicate, Some, true}
+use Rattle.std.specs.Prelude.{◌≡◌, ℕ, ◌+◌, ◌<◌, List, replicate, Some, true}
 use Rattle.machine_events.specs.declared.event.Event.{Event}
 use Rattle.c_tree.specs.Source.{State, runs_from}
 use Rattle.source_machine.specs.StepExchanges.{steps_of}
-use Rattle.machine_model.specs.Schedule.{schedules}
+use Rattle.machine_model.specs.Schedule.{harts_of, schedules}
 use Rattle.flow_graph.specs.Lowering.{lowered}
 use Rattle.flow_graph.specs.Actions.{FlowState}
 use Rattle.flow_graph.specs.Lockstep.{Matches}
 use Rattle.flow_graph.specs.IdempotentCuts.{IsUnlock, HasBefore}
 use Rattle.recovery_semantics.specs.Attempts.{solo, IsInnerStep}
 use Rattle.region_attempts.specs.GraphStates.{node_after}
-use Rattle.crash_simulation.specs.Systems.{System, IsSystem, thread_count}
+use Rattle.crash_simulation.specs.Systems.{System, IsSystem}
 use Rattle.compiler_correctness.specs.Translations.{Translation, steps, source}
 use Rattle.compiler_correctness.specs.Laws.{translation_of}
 
@@ -20,7 +20,7 @@ kept_state c events = source c (schedules (steps c events))
 
 -- how many steps of the thread a crash would undo
 abbrev pub undone : Translation → List Event → (thread : ℕ) → ℕ
-undone c events thread = steps_of thread (steps c events).pending
+undone c events thread = steps_of thread (harts_of (steps c events).pending)
 
 -- They are one stretch of its thread's way through the graph: from where the kept steps have left it, and with no boundary on the way but before an unlock
 -- that is the last of them.

@@ -118,7 +118,7 @@ account_by y w event steps = steps
 
 -- what is kept by an event by which the life goes on
 kept_by : (y : System) (w : World) (event : Event) (steps : Steps) → KeepsOn event →
-    with_all_kept w.log (after_event y.runs.program w event).words (length steps.harts) (account_by y w event steps)
+    with_all_kept w.log (after_event y.runs.program w event).words (length y.runs.program) (account_by y w event steps)
     ≡ steps_after y.runs.marks y.runs.program w event steps
 unfolding steps_after
 kept_by y w (Step h) steps on = refl
@@ -204,7 +204,7 @@ module _ (y : System) (s : IsSystem y) (w : World) (event : Event) (old : Simula
         counted = λ g steps r counted.
             subst (λ (z : Steps). AreCounted y (beginning_by y w event old.abstract g) later_world c.stands.abstract c.stands.ghosts z
             (released_by program w event r))
-            ((λ i. with_all_kept (logs i) later_world.words ((sym counted.count) i) (account_by y w event steps)) ∙ kept_by y w event steps keeps)
+            ((λ i. with_all_kept (logs i) later_world.words ((sym s.count) i) (account_by y w event steps)) ∙ kept_by y w event steps keeps)
             (c.counted (beginning_by y w event old.abstract g) (account_by y w event steps) (released_by program w event r) (moves.counted g steps r counted));
         ends = λ none n. same_then_end y old.abstract moves.next.abstract n c.stands.abstract (moves.sections n) (c.ends n);
         whole = λ begins. absurd (true≢false (sym begins ∙ none_begins w event keeps));

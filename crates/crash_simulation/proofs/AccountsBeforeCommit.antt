@@ -1,14 +1,14 @@
 -- The machine's account and its releases after an event, where commits are still to be taken.
-use Rattle.crash_simulation.proofs.Common.{◌≡◌, ◌≢◌, ℕ, List, ◌∷◌, sym, ◌∙◌, ap, arith, subst, true, false, Some, None, refl, suc, ◌+◌, ◌<◌, [], ◌++◌, length}
+use Rattle.crash_simulation.proofs.Common.{◌≡◌, ◌≢◌, ℕ, List, ◌∷◌, sym, ◌∙◌, ap, arith, subst, true, false, Some, None, refl, suc, ◌+◌, ◌<◌, [], ◌++◌}
 use Rattle.crash_simulation.proofs.Common.{Bool, inl, inr, ◌==◌, slice_get, ◌&&◌, if◌then◌else◌, not, true≢false, append-nil, ap₂, is_some, list_any}
-use Rattle.crash_simulation.proofs.Common.{cases_Bool, and_parts, eqb-true, length-replicate, last_position, Event, Step, Evict, Crash, ended_from, goes_on}
+use Rattle.crash_simulation.proofs.Common.{cases_Bool, and_parts, eqb-true, last_position, Event, Step, Evict, Crash, Log, ended_from, goes_on}
 use Rattle.crash_simulation.proofs.Common.{first_world, IsWellFormedWorld, World, happens, after_event, after_crash_of, Outcome, Steps, is_running, passes_mark}
-use Rattle.crash_simulation.proofs.Common.{stores_point, with_step, HartSteps, no_steps, hart_steps, steps_after, releases_last, LifeSchedules, only_life}
+use Rattle.crash_simulation.proofs.Common.{stores_point, with_step, steps_after, releases_last, LifeSchedules, only_life}
 use Rattle.crash_simulation.proofs.Common.{first_steps, Slot, Phase, Done, Take, Wait, Resume, Run, Ended, log_stays, evictions_touch, steps_touch}
-use Rattle.crash_simulation.proofs.Common.{get-set_same, step_earlier, now, Config, steps_begun, counted_own, counted_other, Origin, point_in, Record, is_store}
+use Rattle.crash_simulation.proofs.Common.{get-set_same, step_earlier, now, Origin, point_in, Record, is_store}
 use Rattle.crash_simulation.proofs.Common.{IsInPhase, has_all, takes_one, is_kept_from, all_have, one_takes, takes_step, waits_step, resumes_step, stopped_stay}
 use Rattle.crash_simulation.proofs.Common.{Gathers, same_there, same_or_other, holds_none_is, AbstractRun, IsCountedOf, IsAccountedOf, AreCounted, Beginning}
-use Rattle.crash_simulation.proofs.Common.{counted_steps, last_stored, SimulatesCounted, first_beginning, is_bound, is_leaving, begins, OwnStep, Releases}
+use Rattle.crash_simulation.proofs.Common.{AreStoredAt, stored_at, last_stored, SimulatesCounted, first_beginning, is_bound, is_leaving, begins, OwnStep, Releases}
 use Rattle.crash_simulation.proofs.Common.{nothing_released, last_released, StepsOrStutters, with_ghost, IsRecoveredFrom, sections_kept, one_if, IsReleasedOf}
 use Rattle.crash_simulation.proofs.Common.{in_step, cut_off, Simulates, System, IsSystem, thread_count, flat_of, ThreadGhost}
 use Rattle.machine_model.specs.Schedule.{begins_life}
@@ -19,9 +19,9 @@ use Rattle.crash_simulation.proofs.ThreadsOfMachines.{phase_of, each_placed}
 use Rattle.crash_simulation.proofs.Sections.{led_sections}
 use Rattle.crash_simulation.proofs.DisjointStores.{elsewhere}
 use Rattle.crash_simulation.proofs.StepSimulation.{evicted_simulates}
-use Rattle.crash_simulation.proofs.StatesMatchSource.{resumed, repeated_or}
+use Rattle.crash_simulation.proofs.StatesMatchSource.{resumed}
 use Rattle.crash_simulation.proofs.LongestAttempts.{StepsInRun, led_of}
-use Rattle.crash_simulation.proofs.AccountUpdates.{begun_by, more_by, kept_same, pending_is, count_same, own_by, own_is, other_is, still_accounted}
+use Rattle.crash_simulation.proofs.AccountUpdates.{begun_by, counted_by, kept_same, pending_is, other_counted, still_accounted}
 use Rattle.crash_simulation.proofs.AccountUpdates.{account_stays, own_counted, own_last_stays, other_last_stays, evicted_last_stays}
 use Rattle.crash_simulation.proofs.LifeBeginnings as life
 use Rattle.crash_simulation.proofs.SimulationAtStart as starting
@@ -149,51 +149,44 @@ none_bound c is = ap (λ (b : Bool). not b && not (list_any is_store c.rest)) is
 
 -- ---- Starts and crashes
 
-pub none_counted : (y : System) (w : World) (b : AbstractRun y) (n : ℕ) (c : ThreadGhost) (one : HartSteps) → c.committed ≡ true → steps_begun b.config n ≡ 0 →
-    one ≡ no_steps → IsCountedOf y w b n c one
-none_counted y w b n c one committed begun none = none ∙ (λ i. counted_steps ((sym (none_bound c committed)) i) (last_stored w n) ((sym begun) i))
-
 -- the account of a machine that begins, after what was kept before
-pub begun_counted : (y : System) (s : IsSystem y) (g : Beginning) {w : World} (stands : Simulates y s w) (threads : ℕ) → threads ≡ thread_count y →
+pub begun_counted : (y : System) (s : IsSystem y) (g : Beginning) {w : World} (stands : Simulates y s w) →
     stands.abstract.origin.source ≡ g.from → stands.abstract.schedule ≡ [] → stands.abstract.config.uncommitted ≡ [] →
-    ((n : ℕ) → ((stands.ghosts n).committed ≡ true) × ((stands.ghosts n).giving ≡ None)) →
-    AreCounted y g w stands.abstract stands.ghosts (first_steps threads (record { earlier = g.earlier; schedule = g.kept })) (λ n. 0)
-begun_counted y s g {w} stands threads many from none uncommitted fresh = record {
+    ((n : ℕ) → (stands.ghosts n).giving ≡ None) →
+    AreCounted y g w stands.abstract stands.ghosts (first_steps (record { earlier = g.earlier; schedule = g.kept })) (λ n. 0)
+begun_counted y s g {w} stands from none uncommitted fresh = record {
   begins = from;
   earlier = refl;
   kept = sym (append-nil g.kept) ∙ ap (λ (us : List ℕ). g.kept ++ us) (sym none);
   pending = sym uncommitted;
-  count = length-replicate threads no_steps ∙ many;
   each = λ n below. record {
-    counted = none_counted y w stands.abstract n (stands.ghosts n) _ (fresh n).0
-        (ap (λ (us : List ℕ). steps_begun (record stands.abstract.config { uncommitted = us }) n) uncommitted)
-        (repeated_or threads n no_steps);
+    counted = tt;
     released = in_step (ap (λ (us : List ℕ). m.ended_from stands.abstract.origin.source us n) none
-        ∙ ap (λ (z : Bool). 0 + one_if z) (sym (none_leaving (stands.ghosts n) (fresh n).1)));
+        ∙ ap (λ (z : Bool). 0 + one_if z) (sym (none_leaving (stands.ghosts n) (fresh n))));
   };
   beyond = λ n outside. ap (λ (us : List ℕ). m.ended_from stands.abstract.origin.source us n) none;
 }
 
 abbrev pub first_counted : (y : System) (s : IsSystem y) (g : Beginning) {w : World} (stands : Simulates y s w) → stands.abstract.origin.source ≡ g.from →
     stands.abstract.schedule ≡ [] → stands.abstract.config.uncommitted ≡ [] →
-    ((n : ℕ) → ((stands.ghosts n).committed ≡ true) × ((stands.ghosts n).giving ≡ None)) →
-    SimulatesCounted y s g w (first_steps (length y.runs.program) (record { earlier = g.earlier; schedule = g.kept })) (λ n. 0)
+    ((n : ℕ) → (stands.ghosts n).giving ≡ None) →
+    SimulatesCounted y s g w (first_steps (record { earlier = g.earlier; schedule = g.kept })) (λ n. 0)
 first_counted y s g {w} stands from none uncommitted fresh = record {
   stands = stands;
-  counted = begun_counted y s g stands (length y.runs.program) s.count from none uncommitted fresh;
+  counted = begun_counted y s g stands from none uncommitted fresh;
 }
 
 abbrev pub start_counted : (y : System) (s : IsSystem y) →
-    SimulatesCounted y s (first_beginning y) (first_world y.runs) (first_steps (length y.runs.program) (only_life [])) (λ n. 0)
-start_counted y s = first_counted y s (first_beginning y) (life.stands y s) refl refl refl (λ n. (refl, refl))
+    SimulatesCounted y s (first_beginning y) (first_world y.runs) (first_steps (only_life [])) (λ n. 0)
+start_counted y s = first_counted y s (first_beginning y) (life.stands y s) refl refl refl (λ n. refl)
 
 abbrev pub recovered_counted : (y : System) (s : IsSystem y) (o : Origin (flat_of y)) (words : List ℕ) (kept : LifeSchedules)
     (is : IsRecoveredFrom y s o words) →
     SimulatesCounted y s (record { from = o.source; earlier = kept.earlier; kept = kept.schedule })
-    (after_crash_of y.runs.log y.runs.program y.runs.mutexes words) (first_steps (length y.runs.program) kept) (λ n. 0)
+    (after_crash_of y.runs.log y.runs.program y.runs.mutexes words) (first_steps kept) (λ n. 0)
 recovered_counted y s o words kept is =
     first_counted y s (record { from = o.source; earlier = kept.earlier; kept = kept.schedule }) (starting.recovered_stands y s o words is) refl refl refl
-    (λ n. (refl, refl))
+    (λ n. refl)
 
 pub crash_counted : (y : System) (s : IsSystem y) {g : Beginning} (w : World) (stands : Simulates y s w) (steps : Steps) (r : ℕ → ℕ) →
     AreCounted y g w stands.abstract stands.ghosts steps r →
@@ -205,10 +198,8 @@ crash_counted y s {g} w stands steps r counted = record {
   earlier = counted.earlier;
   kept = counted.kept ∙ ap (λ (us : List ℕ). g.kept ++ us) (sym (append-nil stands.abstract.schedule));
   pending = refl;
-  count = length-replicate (length steps.harts) no_steps ∙ counted.count;
   each = λ n below. record {
-    counted = let z = starting.stands_after y s w stands in
-        none_counted y (after_event y.runs.program w Crash) z.abstract n (z.ghosts n) _ refl refl (repeated_or (length steps.harts) n no_steps);
+    counted = tt;
     released = crashed_by y s w stands r n below (counted.each n below).released;
   };
   beyond = λ n outside. kept_crashed y s w stands n ∙ (counted.beyond n outside ∙ none_more (r n));
@@ -243,14 +234,6 @@ led_by y s b next thread true kept pending =
 pub led_now : (y : System) (s : IsSystem y) (b : AbstractRun y) (thread : ℕ) (next : AbstractRun y) (led : StepsOrStutters y b thread next) →
     GoesOnBy (now b.config) (now next.config) (begun_by (begins led) thread [])
 led_now y s b thread next led = let l = (led_of y b thread next led).config in led_by y s b next thread (begins led) l.kept l.pending
-
-more_own : (m next : Config) (thread : ℕ) (begun : Bool) → next.uncommitted ≡ begun_by begun thread m.uncommitted →
-    steps_begun next thread ≡ more_by begun (steps_begun m thread)
-more_own m next thread begun e = grind (arith, counted_own, e)
-
-same_other : (m next : Config) (thread n : ℕ) (begun : Bool) → n ≢ thread → next.uncommitted ≡ begun_by begun thread m.uncommitted →
-    steps_begun next n ≡ steps_begun m n
-same_other m next thread n begun differs e = grind (arith, counted_other, e)
 
 -- ---- A step of a hart that executes instructions
 
@@ -287,29 +270,30 @@ module _ (y : System) (s : IsSystem y) (w : World) (h : ℕ) (stands : Simulates
   own_stays : is_bound old ≡ true → last_stored after h ≡ last_stored w h
   own_stays e = own_last_stays y.runs.program w h i.hart stands.machine.sound i.here (o.counted.points ∙ ap (λ (x : Bool). not x && is_bound o.ghost) e)
 
-  own : IsCountedOf y after o.next h o.ghost (hart_steps then_steps h)
+  same_log : after.log ≡ w.log
+  same_log = log_stays y.runs.program w (Step h) stands.machine.sound
+
+  own : IsCountedOf after h o.ghost then_steps.pending
   own =
       let now_last = last_stored after h in
-      let more = more_own b.config o.next.config h begun pending in
-      own_is begun points h position steps (omega (arith, counted.count, o.below))
-      ∙ (λ j. own_by begun (o.counted.points j) (last_position (point_in (sym (log_stays y.runs.program w (Step h) stands.machine.sound) j) after.words h))
-      ((counted.each h o.below).counted j))
-      ∙ own_counted (is_bound old) (is_bound o.ghost) begun _ now_last _ o.counted.bound own_stays none
-      ∙ ap (counted_steps (is_bound o.ghost) now_last) (sym more)
+      let counted_now = own_counted (is_bound old) (is_bound o.ghost) begun (last_stored w h) now_last h steps o.counted.bound own_stays none
+      (counted.each h o.below).counted in
+      let P : Bool → Log → Type 0 = λ p l.
+      AreStoredAt h (stored_at (is_bound o.ghost) now_last) (counted_by begun p h (last_position (point_in l after.words h)) steps).pending in
+      coe 0 1 (j. P ((sym o.counted.points) j) (same_log j)) counted_now
 
   abbrev then_released : ℕ → ℕ
   then_released = released_by y.runs.program w (Step h) r
 
-  other : (n : ℕ) → n < thread_count y → n ≢ h → IsAccountedOf y after o.next n (stands.ghosts n) (hart_steps then_steps n) (then_released n)
+  other : (n : ℕ) → n < thread_count y → n ≢ h → IsAccountedOf y after o.next n (stands.ghosts n) then_steps.pending (then_released n)
   other n below differs = still_accounted y n (record {
     bound = refl;
     leaving = refl;
-    begun = same_other b.config o.next.config h n begun differs pending;
     sections = kept_own y s w h stands i o r n;
     last = λ e. other_last_stays y.runs.program w h n i.hart stands.machine.sound i.here
         (elsewhere y s w h b stands.machine.log o.stores_own n (λ same. differs (sym same)));
     done = stays_done y.runs.program w h stands.machine.sound n;
-  }) (other_is begun points h position n steps differs) (other_released y.runs.program w h r n differs) (counted.each n below)
+  }) (other_counted begun points h position n steps differs) (other_released y.runs.program w h r n differs) (counted.each n below)
 
   pub own_step_counted : AreCounted y g after o.next (with_ghost stands.ghosts h o.ghost) then_steps then_released
   own_step_counted = record {
@@ -317,9 +301,8 @@ module _ (y : System) (s : IsSystem y) (w : World) (h : ℕ) (stands : Simulates
     earlier = step_earlier y.runs.marks y.runs.program w h steps ∙ counted.earlier;
     kept = kept_same begun points h position steps ∙ (counted.kept ∙ ap (λ (us : List ℕ). g.kept ++ us) (sym lead.schedule));
     pending = pending_is begun points h position steps ∙ (ap (begun_by begun h) counted.pending ∙ sym pending);
-    count = count_same begun points h position steps ∙ counted.count;
     each = each_placed (thread_count y) stands.ghosts h o.below o.ghost
-        (λ (n : ℕ) (below : n < thread_count y) (c : ThreadGhost). IsAccountedOf y after o.next n c (hart_steps then_steps n) (then_released n))
+        (λ (n : ℕ) (below : n < thread_count y) (c : ThreadGhost). IsAccountedOf y after o.next n c then_steps.pending (then_released n))
         (record { counted = own; released = released_own y s w h stands i o r (counted.each h o.below).released }) other;
     beyond = λ n outside. kept_own y s w h stands i o r n
         ∙ (counted.beyond n outside ∙ sym (other_released y.runs.program w h r n (λ e. omega (arith, outside, o.below, e))));

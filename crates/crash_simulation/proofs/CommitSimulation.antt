@@ -1,16 +1,16 @@
 -- Where boundaries have been committed, the steps before them are kept.
 use Rattle.crash_simulation.proofs.Common.{◌≡◌, ◌≢◌, ℕ, List, sym, ◌∙◌, ap, arith, subst, true, false, refl, suc, ◌+◌, ◌<◌, [], ◌++◌, Bool, ◌⊎◌, inl, inr, zero}
 use Rattle.crash_simulation.proofs.Common.{◌==◌, replicate, slice_set, ◌&&◌, if◌then◌else◌, not, nat_le, true≢false, append-nil, ◌≤◌, is_some, append_assoc}
-use Rattle.crash_simulation.proofs.Common.{list_any, cond-true, cond-false, last_position, without, steps_of, World, Steps, hart_steps, with_kept}
+use Rattle.crash_simulation.proofs.Common.{list_any, cond-true, cond-false, last_position, without, steps_of, World, Steps, with_kept}
 use Rattle.crash_simulation.proofs.Common.{with_all_kept, FlowState, Writes, no_attempt, now, attempt_of, IsStable, history_at, number_at, steps_begun}
 use Rattle.crash_simulation.proofs.Common.{IsSettled, HasUnlocked, LastUnlocks, equal_self, unequal_of, since_settles, HasCome, IsBeforeBoundary, Origin}
 use Rattle.crash_simulation.proofs.Common.{attempts_are_whole, point_in, config_of, is_store, LogConfig, is_committed, log_facts, committed_where_durable}
 use Rattle.crash_simulation.proofs.Common.{ExitPoint, Keeps, Code, same_or_other, AbstractRun, kept_of, now_of, IsCountedOf, IsAccountedOf, AreCounted}
-use Rattle.crash_simulation.proofs.Common.{Beginning, counted_steps, is_bound, CommitStutters, sections_kept, one_if, IsReleasedOf, SimulatesBut, Simulates}
+use Rattle.crash_simulation.proofs.Common.{Beginning, None, is_bound, CommitStutters, sections_kept, one_if, IsReleasedOf, SimulatesBut, Simulates}
 use Rattle.crash_simulation.proofs.Common.{anybody, AreHeld, AreLocked, gathering, gathered, nobody, System, IsSystem, thread_count, flat_of, ThreadGhost}
 use Rattle.crash_simulation.proofs.Common.{ThreadInv, ExitInv, HasCommittedLog, committed}
 use Rattle.crash_simulation.proofs.BoundaryPassages.{ArePassed, ComesToBoundary, comes, others_taken, own_taken, then_passes}
-use Rattle.crash_simulation.proofs.AccountUpdates.{not_kept, kept_is, kept_pending_is, kept_count_same, kept_own_is, kept_other_is, still_accounted}
+use Rattle.crash_simulation.proofs.AccountUpdates.{not_kept, kept_is, kept_pending_is, kept_own_is, kept_other_is, still_accounted}
 use Rattle.crash_simulation.proofs.StatesMatchSource.{resumed, as_source}
 use Rattle.crash_simulation.proofs.PendingReleases.{IsAtBoundary, at_keeps, at_took, at_gives, under_way}
 use Rattle.crash_simulation.proofs.ThreadsOfMachines.{each_thread, phase_of}
@@ -197,12 +197,11 @@ module _ (y : System) (s : IsSystem y) (w : World) (k : ℕ) (below : k < thread
 
     module _ (g : Beginning) (steps : Steps) (r : ℕ → ℕ) (counted : AreCounted y g w b stands.ghosts steps r) (bound : is_bound c ≡ true)
         (reached : nat_le (last_position (point_in w.log w.words k)) (point_in w.log w.words k).durable ≡ true) where
-      abbrev mine_counted : IsCountedOf y w b k c (hart_steps steps k)
+      abbrev mine_counted : IsCountedOf w k c steps.pending
       mine_counted = (counted.each k below).counted
 
-      own_counted : IsCountedOf y w one.next k (taken c) (hart_steps (with_kept w.log w.words k steps) k)
-      own_counted =
-          kept_own_is y w b k c steps mine_counted bound reached (omega (arith, below, counted.count)) ∙ ap (counted_steps false 0) (sym one.own_begun)
+      own_counted : IsCountedOf w k (taken c) (with_kept w.log w.words k steps).pending
+      own_counted = kept_own_is w k c steps mine_counted bound reached None
 
       kept_own : sections_kept y one.next k ≡ sections_kept y b k + one_if (is_some c.giving && (c.new.point == 0))
       kept_own = grind (arith, kept_more, leaves, replicate, number)
@@ -214,22 +213,22 @@ module _ (y : System) (s : IsSystem y) (w : World) (k : ℕ) (below : k < thread
       counted_after = record {
         begins = ap (λ (o : Origin (flat_of y)). o.source) one.origin ∙ counted.begins;
         earlier = counted.earlier;
-        kept = kept_is y w b k c steps mine_counted bound reached
-            ∙ (ap (λ (us : List ℕ). us ++ replicate (steps_begun b.config k) k) counted.kept
+        kept = kept_is w k c steps mine_counted bound reached
+            ∙ ((λ i. counted.kept i ++ replicate (steps_of k (counted.pending i)) k)
             ∙ (append_assoc g.kept b.schedule (replicate (steps_begun b.config k) k) ∙ ap (λ (us : List ℕ). g.kept ++ us) (sym one.schedule)));
-        pending = kept_pending_is y w b k c steps mine_counted bound reached ∙ (ap (without (steps_begun b.config k) k) counted.pending ∙ sym one.pending);
-        count = kept_count_same y w b k c steps mine_counted bound reached ∙ counted.count;
+        pending = kept_pending_is w k c steps mine_counted bound reached
+            ∙ (ap (λ (us : List ℕ). without (steps_of k us) k us) counted.pending ∙ sym one.pending);
         each = each_taken
-            (λ (n : ℕ) (inside : n < thread_count y) (c' : ThreadGhost). IsAccountedOf y w one.next n c' (hart_steps (with_kept w.log w.words k steps) n) (r n))
+            (λ (n : ℕ) (inside : n < thread_count y) (c' : ThreadGhost).
+            IsAccountedOf y w one.next n c' (with_kept w.log w.words k steps).pending (r n))
             (record { counted = own_counted; released = own_released (counted.each k below).released })
             (λ n inside apart. still_accounted y n (record {
               bound = refl;
               leaving = refl;
-              begun = one.others_begun n apart;
               sections = kept_others y s b one.next k one.origin one.schedule n apart;
               last = λ e. refl;
               done = λ d. d;
-            }) (kept_other_is y w b k c steps mine_counted bound reached n apart) refl (counted.each n inside));
+            }) (kept_other_is w k c steps mine_counted n) refl (counted.each n inside));
         beyond = λ n outside. kept_others y s b one.next k one.origin one.schedule n (λ e. omega (arith, outside, below, e)) ∙ counted.beyond n outside;
       }
 
@@ -333,7 +332,7 @@ module _ (y : System) (s : IsSystem y) (w : World) (first : SimulatesBut y s w a
       counted = λ g steps r counted.
           let later = h.counted g steps r counted in
           subst (λ (z : Steps). AreCounted y g w h.stands.abstract h.stands.ghosts z r)
-          (sym (not_kept y w h.stands.abstract k mine _ (later.each k below).counted bound)) later;
+          (sym (not_kept w k mine _ (later.each k below).counted bound)) later;
       ends = h.ends;
       same_later = λ n later. h.same_later n (omega (arith, later));
     }

@@ -58,8 +58,8 @@ unfoldable pub use Rattle.machine_model.specs.Machine.{happens, after_crash_of, 
 pub use Rattle.rv64_isa.specs.Programs.{code_start}
 pub use Rattle.rv64_isa.specs.Rows.{read, Effect, Stores, Continues, Loads, Cleans, Fences, Calls}
 unfoldable pub use Rattle.rv64_isa.specs.Rows.{row}
-pub use Rattle.machine_model.specs.Schedule.{Steps, has_moved, is_running, completing, is_mark, passes_mark, stores_point, with_step, HartSteps, no_steps}
-pub use Rattle.machine_model.specs.Schedule.{hart_steps, with_begun, with_bound, Bound, durable_steps, with_kept, with_all_kept, steps_along, releases_last}
+pub use Rattle.machine_model.specs.Schedule.{Steps, has_moved, is_running, completing, is_mark, passes_mark, stores_point, with_step, PendingStep, harts_of}
+pub use Rattle.machine_model.specs.Schedule.{with_begun, then_stored, with_stored, is_up_to, is_durable, with_kept, with_all_kept, steps_along, releases_last}
 pub use Rattle.machine_model.specs.Schedule.{released_count, LifeSchedules, only_life, first_steps, effect_at, is_point_store, is_fence, finishes_fence}
 unfoldable pub use Rattle.machine_model.specs.Schedule.{steps_after}
 pub use Rattle.rv64_isa.specs.declared.instr.Instr.{Instr}
@@ -164,7 +164,7 @@ pub use Rattle.recovered_threads.proofs.Public.{ready_stays, takes_never_wait, p
 pub use Rattle.recovered_threads.proofs.Public.{waits_for_takers, gathered_go_on, records_are_apart, gathered_are_kept, harts_go_on, steps_orderly, gathers_on}
 pub use Rattle.recovered_threads.proofs.Public.{unlocks_enter}
 pub use Rattle.crash_simulation.specs.AbstractRuns.{AbstractRun, kept_of, now_of, attempts_of}
-pub use Rattle.crash_simulation.specs.AccountRelation.{IsCountedOf, IsAccountedOf, AreCounted, Beginning, counted_steps, last_stored, SimulatesCounted}
+pub use Rattle.crash_simulation.specs.AccountRelation.{IsCountedOf, IsAccountedOf, AreCounted, Beginning, AreStoredAt, stored_at, last_stored, SimulatesCounted}
 pub use Rattle.crash_simulation.specs.AccountRelation.{MachinesResume, first_beginning}
 pub use Rattle.crash_simulation.specs.BoundaryFences.{boundary_fences, fences_due, AreFencesCounted}
 pub use Rattle.crash_simulation.specs.InstructionSteps.{is_bound, is_leaving, SaysSame, begins, IsUnlocked, was_unlocked, Site, IsReadyToStep, calls, OwnStep}

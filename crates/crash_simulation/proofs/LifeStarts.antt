@@ -121,10 +121,10 @@ module _ (y : System) (s : IsSystem y) (w : World) (old : Simulates y s w) where
       AreCounted y (next_beginning y g b.schedule) (started_anew program w) (life_now may).abstract (life_now may).ghosts (next_life steps) (λ n. 0)
   life_counted may g steps r counted =
       subst (λ (z : Steps). AreCounted y (next_beginning y g b.schedule) (started_anew program w) (life_now may).abstract (life_now may).ghosts z (λ n. 0))
-      (ap₂ (λ (earlier : List (List ℕ)) (kept : List ℕ). first_steps (length steps.harts) (record { earlier = earlier ++ kept ∷ []; schedule = [] }))
+      (ap₂ (λ (earlier : List (List ℕ)) (kept : List ℕ). first_steps (record { earlier = earlier ++ kept ∷ []; schedule = [] }))
       (sym counted.earlier) (sym counted.kept))
-      (begun_counted y s (next_beginning y g b.schedule) (life_now may) (length steps.harts) counted.count
-      (ap (λ (from : State). restart (flat_of y) (after_from from b.schedule)) counted.begins) refl refl (λ n. (refl, refl)))
+      (begun_counted y s (next_beginning y g b.schedule) (life_now may)
+      (ap (λ (from : State). restart (flat_of y) (after_from from b.schedule)) counted.begins) refl refl (λ n. refl))
 
   life_anew : (may : can_start w ≡ true) → HasBegun y s (started_anew program w) (life_now may)
   life_anew may =

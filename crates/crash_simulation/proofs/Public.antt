@@ -1,5 +1,5 @@
 -- What crates above may use of this crate's proofs, passed on from one place. Declares nothing.
-pub use Rattle.crash_simulation.proofs.AccountUpdates.{begun_by, count_same, counted_by, kept_same}
+pub use Rattle.crash_simulation.proofs.AccountUpdates.{begun_by, counted_by, kept_same, pending_is}
 pub use Rattle.crash_simulation.proofs.AccountsAfterEvents.{Continues, GoesOn, begun_in, event_goes_on, not_running, not_there, own_by, step_of}
 pub use Rattle.crash_simulation.proofs.AccountsAfterEvents.{life_begins, life_carried, life_goes_on, none_begins, steps_join, worlds_join}
 pub use Rattle.crash_simulation.proofs.AccountsBeforeCommit.{none_more, released_by, start_counted}

@@ -1,13 +1,12 @@
 -- The machine's account of begun and kept steps is that of the abstract run's config.
-use Rattle.std.specs.Prelude.{◌≡◌, ℕ, ◌<◌, ◌≤◌, List, [], ◌∷◌, ◌++◌, length, Bool, true, false}
+use Rattle.std.specs.Prelude.{◌≡◌, ℕ, ◌<◌, ◌≤◌, List, [], ◌∷◌, ◌++◌, Option, Some, None, Bool, true, false}
 use Rattle.machine_events.specs.declared.event.Event.{Event}
 use Rattle.ido_base.specs.Words.{last_position}
 use Rattle.c_tree.specs.Source.{State, after_from, start}
 use Rattle.source_machine.specs.Lives.{end_lives, restart}
 use Rattle.machine_model.specs.Executables.{first_world}
 use Rattle.machine_model.specs.Machine.{World, after_events}
-use Rattle.machine_model.specs.Schedule.{HartSteps, Steps, only_life, hart_steps, first_steps, steps_along, released_count}
-use Rattle.recovery_semantics.specs.Events.{steps_begun}
+use Rattle.machine_model.specs.Schedule.{PendingStep, Steps, harts_of, only_life, first_steps, steps_along, released_count}
 use Rattle.log_states.specs.Logs.{point_in}
 use Rattle.crash_simulation.specs.Systems.{System, IsSystem, flat_of, thread_count}
 use Rattle.crash_simulation.specs.AbstractRuns.{AbstractRun}
@@ -20,14 +19,19 @@ use Rattle.crash_simulation.specs.ReleasedSections.{sections_kept, IsReleasedOf}
 abbrev pub last_stored : World → (thread : ℕ) → ℕ
 last_stored w thread = last_position (point_in w.log w.words thread)
 
--- so many steps that are begun, bound to the store of a point at a position or free
-abbrev pub counted_steps : (bound : Bool) → (position begun : ℕ) → HartSteps
-counted_steps false position begun = record { free = begun; bound = [] }
-counted_steps true position begun = record { free = 0; bound = record { position = position; steps = begun } ∷ [] }
+-- the position, where it is bound to a store
+abbrev pub stored_at : (bound : Bool) → (position : ℕ) → Option ℕ
+stored_at false position = None
+stored_at true position = Some position
 
--- of a thread: the steps that it has begun, bound to the store of its point where the boundary under way has made that
-abbrev pub IsCountedOf : (y : System) → World → AbstractRun y → (thread : ℕ) → ThreadGhost → HartSteps → Type 0
-IsCountedOf y w b thread c steps = steps ≡ counted_steps (is_bound c) (last_stored w thread) (steps_begun b.config thread)
+-- each of these steps that is of hart h has its store there
+abbrev pub AreStoredAt : (h : ℕ) → Option ℕ → List PendingStep → Type 0
+AreStoredAt h stored [] = Unit {0}
+AreStoredAt h stored (step ∷ steps) = (step.hart ≡ h → step.stored ≡ stored) × AreStoredAt h stored steps
+
+-- of a thread: its pending steps are bound to the store of its point where the boundary under way has made that, and else to none
+abbrev pub IsCountedOf : World → (thread : ℕ) → ThreadGhost → (pending : List PendingStep) → Type 0
+IsCountedOf w thread c pending = AreStoredAt thread (stored_at (is_bound c) (last_stored w thread)) pending
 
 -- what an account goes on from: the state in which this life's execution began, the lives before it, and this life's steps that were kept before
 pub record Beginning : Type 0 where
@@ -53,8 +57,8 @@ beginning_after y g [] = g
 beginning_after y g (schedule ∷ rest) = beginning_after y (next_beginning y g schedule) rest
 
 -- of a thread: its steps are counted, and the sections that its hart has left by a release
-pub record IsAccountedOf (y : System) (w : World) (b : AbstractRun y) (thread : ℕ) (c : ThreadGhost) (steps : HartSteps) (releases : ℕ) : Type 0 where
-  pub counted : IsCountedOf y w b thread c steps
+pub record IsAccountedOf (y : System) (w : World) (b : AbstractRun y) (thread : ℕ) (c : ThreadGhost) (pending : List PendingStep) (releases : ℕ) : Type 0 where
+  pub counted : IsCountedOf w thread c pending
   pub released : IsReleasedOf y w b thread c releases
 
 -- the steps of all threads are counted, and their releases
@@ -62,9 +66,8 @@ pub record AreCounted (y : System) (g : Beginning) (w : World) (b : AbstractRun 
   pub begins : b.origin.source ≡ g.from
   pub earlier : steps.earlier ≡ g.earlier
   pub kept : steps.kept ≡ g.kept ++ b.schedule
-  pub pending : steps.pending ≡ b.config.uncommitted
-  pub count : length steps.harts ≡ thread_count y
-  pub each : (n : ℕ) → n < thread_count y → IsAccountedOf y w b n (ghosts n) (hart_steps steps n) (releases n)
+  pub pending : harts_of steps.pending ≡ b.config.uncommitted
+  pub each : (n : ℕ) → n < thread_count y → IsAccountedOf y w b n (ghosts n) steps.pending (releases n)
   -- past the last thread, as many sections are kept as are released
   pub beyond : (n : ℕ) → thread_count y ≤ n → sections_kept y b n ≡ releases n
 
@@ -84,5 +87,5 @@ pub record SimulatesLives (y : System) (s : IsSystem y) (first : Beginning) (w :
 abbrev pub MachinesResume : Type 0
 MachinesResume = (y : System) (s : IsSystem y) (events : List Event) →
     SimulatesLives y s (first_beginning y) (after_events y.runs.program (first_world y.runs) events)
-    (steps_along y.runs.marks y.runs.program (first_world y.runs) events (first_steps (length y.runs.program) (only_life [])))
+    (steps_along y.runs.marks y.runs.program (first_world y.runs) events (first_steps (only_life [])))
     (released_count y.runs.program (first_world y.runs) events)

@@ -33,5 +33,5 @@ RecoveredAreCounted = (y : System) (s : IsSystem y) (o : Origin (flat_of y)) (wo
     (events : List Event) →
     SimulatesLives y s (record { from = o.source; earlier = kept.earlier; kept = kept.schedule })
     (after_events y.runs.program (after_crash_of y.runs.log y.runs.program y.runs.mutexes words) events)
-    (steps_along y.runs.marks y.runs.program (after_crash_of y.runs.log y.runs.program y.runs.mutexes words) events (first_steps (length y.runs.program) kept))
+    (steps_along y.runs.marks y.runs.program (after_crash_of y.runs.log y.runs.program y.runs.mutexes words) events (first_steps kept))
     (released_count y.runs.program (after_crash_of y.runs.log y.runs.program y.runs.mutexes words) events)

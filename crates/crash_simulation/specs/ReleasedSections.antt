@@ -1,5 +1,5 @@
 -- The kept schedule and the machine's releases: it holds each section that has ended, and at most one more of each thread.
-use Rattle.std.specs.Prelude.{◌≡◌, ℕ, suc, ◌+◌, ◌≤◌, List, [], length, Bool, if◌then◌else◌}
+use Rattle.std.specs.Prelude.{◌≡◌, ℕ, suc, ◌+◌, ◌≤◌, List, [], Bool, if◌then◌else◌}
 use Rattle.machine_events.specs.declared.event.Event.{Event}
 use Rattle.c_tree.specs.Source.{start, ended_from}
 use Rattle.source_machine.specs.Lives.{begun_after}
@@ -31,7 +31,7 @@ ended_by y steps thread = ended_from (begun_after (flat_of y) (start (flat_of y)
 
 abbrev pub ended_in_source : (y : System) → List Event → (thread : ℕ) → ℕ
 ended_in_source y events thread =
-    ended_by y (steps_along y.runs.marks y.runs.program (first_world y.runs) events (first_steps (length y.runs.program) (only_life []))) thread
+    ended_by y (steps_along y.runs.marks y.runs.program (first_world y.runs) events (first_steps (only_life []))) thread
 
 abbrev pub ended_in_machine : (y : System) → List Event → (hart : ℕ) → ℕ
 ended_in_machine y events hart = released_count y.runs.program (first_world y.runs) events hart

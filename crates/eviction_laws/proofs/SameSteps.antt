@@ -25,7 +25,7 @@ use Rattle.machine_model.specs.Machine.{over_after, done_if_over, run_step, phas
 use Rattle.machine_model.specs.Machine.{has_stopped, happens, after_event, after_events, reply_to, start_of, started_anew, fresh_hart, anew, all_anew}
 use Rattle.log_schemes.specs.Schemes.{numbers_from}
 use Rattle.machine_model.specs.Schedule.{KeepsOn, Steps, has_moved, is_running, completing, is_mark}
-use Rattle.machine_model.specs.Schedule.{passes_mark, with_begun, with_bound, with_kept, with_all_kept}
+use Rattle.machine_model.specs.Schedule.{passes_mark, with_begun, with_stored, with_kept, with_all_kept}
 use Rattle.machine_model.specs.Schedule.{with_step, stores_point, steps_after, steps_along, releases_last, released_after, released_along}
 use Rattle.machine_model.proofs.Public.{get-set_same, get-set_other, anew_found}
 use Rattle.eviction_laws.specs.Evictions.{is_entering, NoneEnters, DifferInEvictions, no_more, both_step, one_evicts, other_evicts, step_replies, values_of}
@@ -323,7 +323,7 @@ kept_begun log words zero s = refl
 kept_begun log words (suc h) s = kept_begun log words h s
 
 counted_begun : (begun points : Bool) (h position : ℕ) (s : Steps) →
-    (let started = if begun then with_begun h s else s in if points then with_bound h position started else started).begun
+    (let started = if begun then with_begun h s else s in if points then with_stored h position started else started).begun
     ≡ (if begun then s.begun ++ h ∷ [] else s.begun)
 counted_begun false false h position s = refl
 counted_begun false true h position s = refl
@@ -345,13 +345,13 @@ module _ (marks : List (List ℕ)) (program : List (List Slot)) where
       (steps_after marks program w (Step h) s).begun ≡ (if passes_mark marks program w h then s.begun ++ h ∷ [] else s.begun)
   unfolding steps_after
   step_begun w h s =
-      kept_begun w.log (after_event program w (Step h)).words (length s.harts) (with_step marks program w h s)
+      kept_begun w.log (after_event program w (Step h)).words (length program) (with_step marks program w h s)
       ∙ counted_begun (passes_mark marks program w h) (stores_point program w (Step h) h) h
       (last_position (word_at (after_event program w (Step h)).words (word_number (point_at w.log h)))) s
 
   evicted_begun : (w : World) (line mask : ℕ) (s : Steps) → (steps_after marks program w (Evict line mask) s).begun ≡ s.begun
   unfolding steps_after
-  evicted_begun w line mask s = kept_begun w.log (after_event program w (Evict line mask)).words (length s.harts) s
+  evicted_begun w line mask s = kept_begun w.log (after_event program w (Evict line mask)).words (length program) s
 
   module _ (w u : World) (out : NoneEnters w) (d : DifferInDurability w u) where
     same_harts : u.harts ≡ w.harts

@@ -86,7 +86,7 @@ module _ (log : Log) (text : List ℕ) (x : Compiled) (is : IsCompiledAs log tex
     kept_is : schedules (steps c crashed) ≡ all_lives file.kept
     unfolding steps_after
     kept_is =
-        ap schedules (steps_join c.runs.marks c.runs.program before (Crash ∷ []) (first_world c.runs) (first_steps (length c.runs.program) (only_life [])))
+        ap schedules (steps_join c.runs.marks c.runs.program before (Crash ∷ []) (first_world c.runs) (first_steps (only_life [])))
 
     world_is : first_from c (image_in c file) ≡ world c crashed
     world_is = ap (first_from c) in_file ∙ (crashes c before []).world_is

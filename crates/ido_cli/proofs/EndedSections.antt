@@ -55,7 +55,7 @@ module _ (c : Translation) (compilation : IsCompilation c) (h : ℕ) (below : h 
   then_steps : (events : List Event) (event : Event) →
       steps c (events ++ event ∷ []) ≡ steps_after c.runs.marks c.runs.program (world c events) event (steps c events)
   then_steps events event =
-      steps_join c.runs.marks c.runs.program events (event ∷ []) (first_world c.runs) (first_steps (length c.runs.program) (only_life []))
+      steps_join c.runs.marks c.runs.program events (event ∷ []) (first_world c.runs) (first_steps (only_life []))
 
   -- an event of a life
   goes_on : (events : List Event) (event : Event) → begins_life (world c events) event ≡ false →

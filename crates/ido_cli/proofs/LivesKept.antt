@@ -61,7 +61,7 @@ module _ (c : Translation) where
       let s = steps c until in
       let after = after_event program (world c until) Start in
       let along : steps c (until ++ Start ∷ rest) ≡ steps_along marks program after rest (next_life s) =
-      steps_join marks program until (Start ∷ rest) (first_world c.runs) (first_steps (length program) (only_life []))
+      steps_join marks program until (Start ∷ rest) (first_world c.runs) (first_steps (only_life []))
       ∙ ap (steps_along marks program after rest) (started marks program (world c until) s may) in
       let end = steps_along marks program after rest (next_life s) in
       let more = grown_along marks program rest after (next_life s) in

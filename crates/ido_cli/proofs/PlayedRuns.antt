@@ -103,7 +103,7 @@ module _ (flat : f.Flat) (object : Object) (marks : Marks) (cuts : Cuts) (life :
 
   pub same_steps : steps_in life ≡ steps (translation_to flat object marks cuts) events
   same_steps =
-      ap (λ (x : LifeConfig). steps_along x.runs.marks x.runs.program x.world life.journal (first_steps (length x.runs.program) x.kept_before)) p.begins
+      ap (λ (x : LifeConfig). steps_along x.runs.marks x.runs.program x.world life.journal (first_steps x.kept_before)) p.begins
       ∙ ap (λ (es : List Event). steps (translation_to flat object marks cuts) es) p.journal
 
   pub harts_of_life : length (world_of life).harts ≡ length life.runs.program

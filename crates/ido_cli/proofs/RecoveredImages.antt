@@ -28,7 +28,7 @@ use Rattle.run_tracker.specs.links.EarlierLives.{lives_in}
 few : (c : Translation) (events : List Event) → length events ≤ MOST_EVENTS → sum_by length (all_lives (left_by c events).kept) ≤ MOST_STEPS
 few c events short =
     let kept : sum_by length (all_lives (left_by c events).kept) ≤ length events =
-    first_kept_few c.runs.marks c.runs.program (first_world c.runs) events (length c.runs.program) in
+    first_kept_few c.runs.marks c.runs.program (first_world c.runs) events in
     omega (arith, kept, short)
 
 no_newer : (version : ImageVersion) → number_of version ≤ number_of Third

@@ -27,7 +27,7 @@ module _ (c : Translation) (file : Image) (turns : ℕ) (life : Course) (r : Has
 
   life_steps : steps_in life ≡ steps_from c (image_in c file) life.journal
   life_steps =
-      ap (λ (m : LifeConfig). steps_along m.runs.marks m.runs.program m.world life.journal (first_steps (length m.runs.program) m.kept_before)) r.opens
+      ap (λ (m : LifeConfig). steps_along m.runs.marks m.runs.program m.world life.journal (first_steps m.kept_before)) r.opens
 
   -- by its report
   pub recovery : ImagesAreCrashes → IsCompilation c → (status : ℕ) (output : List ℕ) →
@@ -59,7 +59,7 @@ module _ (c : Translation) (file : Image) (turns : ℕ) (life : Course) (r : Has
   pub still_alone : file.kept.earlier ≡ [] → (steps_in life).earlier ≡ []
   still_alone alone =
       ap (λ (s : Steps). s.earlier) life_steps
-      ∙ along_earlier c.runs.marks c.runs.program life.journal (first_from c (image_in c file)) (first_steps (length c.runs.program) file.kept)
+      ∙ along_earlier c.runs.marks c.runs.program life.journal (first_from c (image_in c file)) (first_steps file.kept)
       (leg_startless (leg_after (recovering c file) turns None [] None) life.journal r.leg.each)
       ∙ alone
 

@@ -141,7 +141,7 @@ module _ (flat : f.Flat) (object : Object) (marks : Marks) (cuts : Cuts) (t : Is
   kept_after turns moment most left stops evict d few =
       let journal : left.journal ≡ d.journal = d.plays.events_are ∙ ap (λ (es : List Event). es ++ d.journal) none_made in
       let events = leg_bounded (leg_from turns moment begun None) d.journal d.leg.each in
-      let kept = all_kept_few left.runs.marks left.runs.program left.opening left.journal (length left.runs.program) left.kept_before in
+      let kept = all_kept_few left.runs.marks left.runs.program left.opening left.journal left.kept_before in
       let before : all_lives left.kept_before ≡ all_lives file.kept =
       ap (λ (m : LifeConfig). all_lives m.kept_before) d.plays.opens ∙ ap (λ (x : Course). all_lives x.kept_before) is in
       omega (arith, kept, few, events, ap (sum_by length) before, ap length journal)
@@ -219,7 +219,7 @@ module _ (flat : f.Flat) (object : Object) (marks : Marks) (cuts : Cuts) (t : Is
 
       pub same_steps : steps_in life ≡ steps_from made (image_in made file) life.journal
       same_steps =
-          ap (λ (m : LifeConfig). steps_along m.runs.marks m.runs.program m.world life.journal (first_steps (length m.runs.program) m.kept_before)) opens
+          ap (λ (m : LifeConfig). steps_along m.runs.marks m.runs.program m.world life.journal (first_steps m.kept_before)) opens
 
       pub has_recovered : ended ≡ [] → (turns moment : ℕ) (stops : List Stop) (evict : Option Evictor) →
           moment ≡ min most_leg_events (length object.code.items * turns + 1) → IsLifeDriven begun turns moment None life stops evict →

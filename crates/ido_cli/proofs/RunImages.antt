@@ -52,14 +52,14 @@ module _ (flat : f.Flat) (object : Object) (marks : Marks) (cuts : Cuts) (life :
   steps_few =
       let c = made in
       let few : sum_by length (all_lives (left_by made events).kept) ≤ length events =
-      first_kept_few c.runs.marks c.runs.program (first_world c.runs) events (length c.runs.program) in
+      first_kept_few c.runs.marks c.runs.program (first_world c.runs) events in
       omega (arith, ap (sum_by length) same_kept, few)
 
   pub lives_few : length (schedules (steps_in life)) ≤ length events + 1
   lives_few =
       let c = made in
       let few : length (all_lives (left_by made events).kept) ≤ length events + 1 =
-      first_lives_few c.runs.marks c.runs.program (first_world c.runs) events (length c.runs.program) in
+      first_lives_few c.runs.marks c.runs.program (first_world c.runs) events in
       omega (arith, ap length same_kept, few)
 
   module _ (t : IsTranslated flat object marks cuts) (compilation : IsCompilation made) where

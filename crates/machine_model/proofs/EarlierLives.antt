@@ -10,7 +10,7 @@ use Rattle.log_schemes.specs.Layout.{point_at}
 use Rattle.rv64_isa.specs.declared.object.Slot.{Slot}
 use Rattle.machine_model.specs.Machine.{World, after_event}
 use Rattle.machine_model.specs.Schedule.{HaveNoStart, Steps, passes_mark, stores_point, with_begun}
-use Rattle.machine_model.specs.Schedule.{with_bound, with_all_kept, with_step, begins_life, next_life}
+use Rattle.machine_model.specs.Schedule.{with_stored, with_all_kept, with_step, begins_life, next_life}
 use Rattle.machine_model.specs.Schedule.{steps_after, steps_along}
 
 pub all_kept_earlier : (log : Log) (words : List Word) (count : ℕ) (s : Steps) → (with_all_kept log words count s).earlier ≡ s.earlier
@@ -18,7 +18,7 @@ all_kept_earlier log words zero s = refl
 all_kept_earlier log words (suc h) s = all_kept_earlier log words h s
 
 counted_earlier : (begun points : Bool) (h position : ℕ) (s : Steps) →
-    (let started = if begun then with_begun h s else s in if points then with_bound h position started else started).earlier ≡ s.earlier
+    (let started = if begun then with_begun h s else s in if points then with_stored h position started else started).earlier ≡ s.earlier
 counted_earlier false false h position s = refl
 counted_earlier false true h position s = refl
 counted_earlier true false h position s = refl
@@ -39,8 +39,8 @@ module _ (marks : List (List ℕ)) (program : List (List Slot)) where
   pub event_earlier : (w : World) (event : Event) (s : Steps) → begins_life w event ≡ false → (steps_after marks program w event s).earlier ≡ s.earlier
   unfolding steps_after
   event_earlier w (Step h) s none =
-      all_kept_earlier w.log (after_event program w (Step h)).words (length s.harts) (with_step marks program w h s) ∙ step_earlier w h s
-  event_earlier w (Evict line mask) s none = all_kept_earlier w.log (after_event program w (Evict line mask)).words (length s.harts) s
+      all_kept_earlier w.log (after_event program w (Step h)).words (length program) (with_step marks program w h s) ∙ step_earlier w h s
+  event_earlier w (Evict line mask) s none = all_kept_earlier w.log (after_event program w (Evict line mask)).words (length program) s
   event_earlier w Crash s none = refl
   event_earlier w Start s none = ap (λ (b : Bool). (if b then next_life s else s).earlier) none
 

@@ -4,4 +4,6 @@ mod WorkedRuns
 mod StartedWorlds
 mod Frames
 mod EarlierLives
+mod PendingSteps
+mod WorkedSteps
 mod ResumedRegisters

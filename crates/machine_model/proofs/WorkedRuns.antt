@@ -159,7 +159,7 @@ p1_marks : List (List ℕ)
 p1_marks = marks_from 0x1_0000 (one_section 0 1 ∷ [])
 
 p1_start : Run
-p1_start = record { world = start_of V1 p1 1 (5 ∷ []); steps = first_steps 1 (only_life []) }
+p1_start = record { world = start_of V1 p1 1 (5 ∷ []); steps = first_steps (only_life []) }
 
 words_of_code : map length p1 ≡ 64 ∷ []
 unfolding p1 programs one_section node node_acquire node_store code_of acquire add store last_release end boundary log point move
@@ -261,7 +261,7 @@ pair_marks = marks_from 0x1_0000 (one_section 0 1 ∷ one_section 1 10 ∷ [])
 
 -- the second hart waits for the lock, and is done at once after the crash
 second_waits : told (many pair pair_marks 80 (Step 0) (many pair pair_marks 8 (Step 1) (make pair pair_marks Crash (many pair pair_marks 5 (Step 1)
-    (to_fences pair pair_marks 100 2 0 (record { world = start_of V1 pair 1 (5 ∷ []); steps = first_steps 2 (only_life []) }))))))
+    (to_fences pair pair_marks 100 2 0 (record { world = start_of V1 pair 1 (5 ∷ []); steps = first_steps (only_life []) }))))))
     ≡ record { x = 6; y = 0; kept = 0 ∷ 0 ∷ 0 ∷ 0 ∷ []; settled = true }
 unfolding told to_fences many make pair_marks pair programs marks_from marks_of one_section node node_acquire node_store code_of acquire add store release
     last_release end boundary log point move start_of after_crash_of resumed_registers locks_in initial_words spread_words happens row result_of steps_after
@@ -289,7 +289,7 @@ overlap_marks : List (List ℕ)
 overlap_marks = marks_from 0x1_0000 (two_locks ∷ one_section 1 9 ∷ [])
 
 overlap_start : Run
-overlap_start = record { world = start_of V1 overlap 2 (1 ∷ 0 ∷ 0 ∷ 0 ∷ 0 ∷ 0 ∷ 0 ∷ 0 ∷ 2 ∷ []); steps = first_steps 2 (only_life []) }
+overlap_start = record { world = start_of V1 overlap 2 (1 ∷ 0 ∷ 0 ∷ 0 ∷ 0 ∷ 0 ∷ 0 ∷ 0 ∷ 2 ∷ []); steps = first_steps (only_life []) }
 
 -- the first lock is given up durably, and not by its ECALL: the second hart waits for it until the crash
 given_up : told (many overlap overlap_marks 80 (Step 0)

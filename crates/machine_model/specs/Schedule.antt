@@ -1,6 +1,6 @@
 -- What a run of the machine means for the source: which steps of it were begun, and which are kept.
-use Rattle.std.specs.Prelude.{ℕ, zero, suc, ◌+◌, List, [], ◌∷◌, ◌++◌, length, slice_get, slice_index_or, slice_set, Option, Some}
-use Rattle.std.specs.Prelude.{None, Bool, true, false, not, nat_lt, nat_le, ◌==◌, ◌&&◌, if◌then◌else◌, replicate, filter, sum_by}
+use Rattle.std.specs.Prelude.{ℕ, zero, suc, ◌+◌, List, [], ◌∷◌, ◌++◌, length, map, filter, slice_get, slice_index_or, Option, Some, None, is_none}
+use Rattle.std.specs.Prelude.{Bool, true, false, not, nat_le, ◌==◌, ◌&&◌, if◌then◌else◌}
 use Rattle.std.specs.List.{list_any}
 use Rattle.machine_events.specs.declared.event.Event.{Event}
 use Rattle.log_schemes.specs.declared.log.Log.{Log}
@@ -90,18 +90,19 @@ stores_point program w event h = completes (is_point_store w.log h) program w ev
 abbrev pub finishes_fence : List (List Slot) → World → Event → (h : ℕ) → Bool
 finishes_fence program w event h = completes is_fence program w event h
 
--- ---- Begun and kept steps. The marks of a thread are the addresses of the instructions that begin a step of the source
+-- ---- Begun and kept steps
+-- By three moments: a hart passes a mark of its thread, which is the address of an instruction that begins a step of the source; it stores its point; and that
+-- store is durable, by which the step is kept.
 
--- steps that are bound to a point's store: they are kept once the point's word is durable up to that position
-pub record Bound : Type 0 where
-  pub position : ℕ
-  pub steps : ℕ
+-- a step of the source that its hart has begun and that isn't kept
+pub record PendingStep : Type 0 where
+  pub hart : ℕ
+  -- bound to the first store of its point that the hart has made since: the position of that, if there was one
+  pub stored : Option ℕ
 
-pub record HartSteps : Type 0 where
-  -- begun since the hart's last store of its point
-  pub free : ℕ
-  -- the oldest first
-  pub bound : List Bound
+-- whose steps they are, as a schedule
+abbrev pub harts_of : List PendingStep → List ℕ
+harts_of steps = map (λ step. step.hart) steps
 
 -- a schedule for each life: those of the lives before, and one of the life that goes on
 pub record LifeSchedules : Type 0 where
@@ -124,8 +125,7 @@ pub record Steps : Type 0 where
   -- this life's
   pub kept : List ℕ
   -- the steps begun since this life's start or the last crash and not kept, in their order
-  pub pending : List ℕ
-  pub harts : List HartSteps
+  pub pending : List PendingStep
 
 -- the schedules that are kept, this life's so far
 abbrev pub kept_lives : Steps → LifeSchedules
@@ -133,12 +133,6 @@ kept_lives s = record { earlier = s.earlier; schedule = s.kept }
 
 abbrev pub schedules : Steps → List (List ℕ)
 schedules s = all_lives (kept_lives s)
-
-abbrev pub no_steps : HartSteps
-no_steps = record { free = 0; bound = [] }
-
-abbrev pub hart_steps : Steps → (h : ℕ) → HartSteps
-hart_steps s h = slice_index_or s.harts h no_steps
 
 abbrev pub is_mark : List (List ℕ) → (thread pc : ℕ) → Bool
 is_mark marks thread pc = list_any (λ mark. mark == pc) (slice_index_or marks thread [])
@@ -150,51 +144,47 @@ passes_mark marks program w h = elim (completing program w h) [
   | None ↦ false
 ]
 
+-- hart h passes a mark: it begins a step
 abbrev pub with_begun : (h : ℕ) → Steps → Steps
-with_begun h s = record s {
-  begun = s.begun ++ h ∷ [];
-  pending = s.pending ++ h ∷ [];
-  harts = slice_set s.harts h (record (hart_steps s h) { free = (hart_steps s h).free + 1 });
-}
+with_begun h s = record s { begun = s.begun ++ h ∷ []; pending = s.pending ++ record { hart = h; stored = None } ∷ [] }
 
--- the steps begun before a point's store and not yet kept are bound to it
-abbrev pub with_bound : (h position : ℕ) → Steps → Steps
-with_bound h position s = record s {
-  harts = slice_set s.harts h (record { free = 0; bound = (hart_steps s h).bound ++ record { position = position; steps = (hart_steps s h).free } ∷ [] });
-}
+-- the step, where hart h stores its point at the position
+abbrev pub then_stored : (h position : ℕ) → PendingStep → PendingStep
+then_stored h position step = if step.hart == h && is_none step.stored then record step { stored = Some position } else step
 
--- the list without the first so many occurrences of a number
-abbrev pub without : (h count : ℕ) → List ℕ → List ℕ
-without h count [] = []
-without h zero (x ∷ xs) = x ∷ xs
-without h (suc count) (x ∷ xs) = if x == h then without h count xs else x ∷ without h (suc count) xs
+-- hart h stores its point at the position: its steps that are bound to no store are bound to this one
+abbrev pub with_stored : (h position : ℕ) → Steps → Steps
+with_stored h position s = record s { pending = map (then_stored h position) s.pending }
 
--- steps that are bound to positions up to the durable one
-abbrev pub durable_steps : (durable : ℕ) → List Bound → ℕ
-durable_steps durable bound = sum_by (λ b. if nat_le b.position durable then b.steps else 0) bound
+-- there is a position, and it is at most the durable one
+abbrev pub is_up_to : (durable : ℕ) → Option ℕ → Bool
+is_up_to durable None = false
+is_up_to durable (Some position) = nat_le position durable
 
--- where the point of hart h has become durable, the steps bound to it are kept
+-- the step is one of hart h, and bound to a store of its point that is durable
+abbrev pub is_durable : (h durable : ℕ) → PendingStep → Bool
+is_durable h durable step = (step.hart == h) && is_up_to durable step.stored
+
+-- the steps of hart h that are bound to a durable store of its point are kept
 abbrev pub with_kept : Log → List Word → (h : ℕ) → Steps → Steps
 with_kept log words h s =
     let durable = (word_at words (word_number (point_at log h))).durable in
-    let count = durable_steps durable (hart_steps s h).bound in
     record s {
-      kept = s.kept ++ replicate count h;
-      pending = without h count s.pending;
-      harts = slice_set s.harts h (record { free = (hart_steps s h).free; bound = filter (λ b. nat_lt durable b.position) (hart_steps s h).bound });
+      kept = s.kept ++ harts_of (filter (is_durable h durable) s.pending);
+      pending = filter (λ step. not (is_durable h durable step)) s.pending;
     }
 
--- where the points of the first `count` harts have become durable, the steps bound to them are kept
+-- those of each of the first `count` harts are, hart by hart
 abbrev pub with_all_kept : Log → List Word → (count : ℕ) → Steps → Steps
 with_all_kept log words zero s = s
 with_all_kept log words (suc h) s = with_kept log words h (with_all_kept log words h s)
 
--- what a step of hart h begins and binds
+-- what a step of hart h begins, and what it stores after
 abbrev pub with_step : List (List ℕ) → List (List Slot) → World → (h : ℕ) → Steps → Steps
 with_step marks program w h s =
     let started = if passes_mark marks program w h then with_begun h s else s in
     if stores_point program w (Step h) h
-    then with_bound h (last_position (word_at (after_event program w (Step h)).words (word_number (point_at w.log h)))) started else started
+    then with_stored h (last_position (word_at (after_event program w (Step h)).words (word_number (point_at w.log h)))) started else started
 
 -- the event begins another life
 abbrev pub begins_life : World → Event → Bool
@@ -220,13 +210,13 @@ HaveNoStart (Start ∷ events) = ⊥
 
 -- the steps of another life, before any: those that the last life has not kept are dropped
 abbrev pub next_life : Steps → Steps
-next_life s = record { begun = []; earlier = s.earlier ++ s.kept ∷ []; kept = []; pending = []; harts = replicate (length s.harts) no_steps }
+next_life s = record { begun = []; earlier = s.earlier ++ s.kept ∷ []; kept = []; pending = [] }
 
 -- the steps after an event
 unfoldable pub steps_after : List (List ℕ) → List (List Slot) → World → Event → Steps → Steps
-steps_after marks program w (Step h) s = with_all_kept w.log (after_event program w (Step h)).words (length s.harts) (with_step marks program w h s)
-steps_after marks program w (Evict line mask) s = with_all_kept w.log (after_event program w (Evict line mask)).words (length s.harts) s
-steps_after marks program w Crash s = record s { pending = []; harts = replicate (length s.harts) no_steps }
+steps_after marks program w (Step h) s = with_all_kept w.log (after_event program w (Step h)).words (length program) (with_step marks program w h s)
+steps_after marks program w (Evict line mask) s = with_all_kept w.log (after_event program w (Evict line mask)).words (length program) s
+steps_after marks program w Crash s = record s { pending = [] }
 steps_after marks program w Start s = if can_start w then next_life s else s
 
 -- the steps after a list of events
@@ -235,8 +225,8 @@ steps_along marks program w [] s = s
 steps_along marks program w (event ∷ events) s = steps_along marks program (after_event program w event) events (steps_after marks program w event s)
 
 -- the steps before any event, with schedules that are kept already
-abbrev pub first_steps : (threads : ℕ) → (kept : LifeSchedules) → Steps
-first_steps threads kept = record { begun = []; earlier = kept.earlier; kept = kept.schedule; pending = []; harts = replicate threads no_steps }
+abbrev pub first_steps : (kept : LifeSchedules) → Steps
+first_steps kept = record { begun = []; earlier = kept.earlier; kept = kept.schedule; pending = [] }
 
 -- ---- Releases
 

@@ -12,7 +12,7 @@ use Rattle.machine_model.specs.declared.phase.Phase.{Phase}
 use Rattle.machine_model.specs.declared.phase.Phase.TheVariants.{Take, Wait, Resume, Run, Done, Ended}
 use Rattle.machine_model.specs.Executables.{first_world}
 use Rattle.machine_model.specs.Machine.{Hart, World, bank_of}
-use Rattle.machine_model.specs.Schedule.{all_lives, is_point_store, is_running, released_count, schedules}
+use Rattle.machine_model.specs.Schedule.{all_lives, harts_of, is_point_store, is_running, released_count, schedules}
 use Rattle.flow_graph.specs.Lockstep.{Matches}
 use Rattle.c_tree.specs.Source.{State}
 use Rattle.source_machine.specs.StepExchanges.{steps_of}
@@ -212,7 +212,7 @@ stored_at y s events resumes b same memory h v e stable writes =
     let account = steps (translation_of y) events in
     let kept : source (translation_of y) (schedules account) ≡ b.config.kept =
     kept_is y s w account resumes ∙ ap (λ (a : AbstractRun y). a.config.kept) (sym same) in
-    let pending : account.pending ≡ b.config.uncommitted =
+    let pending : harts_of account.pending ≡ b.config.uncommitted =
     resumes.is.counted.pending ∙ ap (λ (a : AbstractRun y). a.config.uncommitted) (sym same) in
     let later : source (translation_of y) (all_lives (now_events (translation_of y) events)) ≡ now b.config =
     now_is y s w account resumes ∙ ap (λ (a : AbstractRun y). now a.config) (sym same) in

@@ -3,7 +3,7 @@ use Rattle.std.proofs.Common.{◌≡◌, ℕ, ◌<◌, ◌≤◌, List, sym, sub
 use Rattle.machine_events.specs.declared.event.Event.{Event}
 use Rattle.c_tree.specs.Source.{State}
 use Rattle.source_machine.specs.StepExchanges.{steps_of}
-use Rattle.machine_model.specs.Schedule.{schedules}
+use Rattle.machine_model.specs.Schedule.{harts_of, schedules}
 use Rattle.flow_graph.specs.IdempotentCuts.{AreCuts}
 use Rattle.flow_graph.specs.Lockstep.{Matches}
 use Rattle.flow_graph.specs.Lowering.{lowered}
@@ -28,7 +28,7 @@ module _ (machines : MachinesResume) (y : System) (s : IsSystem y) (events : Lis
   kept : source (translation_of y) (schedules (steps (translation_of y) events)) ≡ b.config.kept
   kept = kept_is y s _ (steps (translation_of y) events) (machines y s events)
 
-  pending : (steps (translation_of y) events).pending ≡ b.config.uncommitted
+  pending : harts_of (steps (translation_of y) events).pending ≡ b.config.uncommitted
   pending = (machines y s events).is.counted.pending
 
   cuts : AreCuts (lowered (flat_of y)) y.plan.boundaries
@@ -45,7 +45,7 @@ module _ (machines : MachinesResume) (y : System) (s : IsSystem y) (events : Lis
       r.resumed.invariant r.resumed.kept (r.inside thread) reads low (omega (arith, tried, done)) writes
 
   unread : (read later : ℕ) (one : Element) → Reads (flat_of y) (kept_of y b) thread read one → read ≤ later →
-      later < steps_of thread (steps (translation_of y) events).pending →
+      later < steps_of thread (harts_of (steps (translation_of y) events).pending) →
       WritesAt (source (translation_of y) (schedules (steps (translation_of y) events))) thread later one.variable one.element →
       Writes (source (translation_of y) (schedules (steps (translation_of y) events))) thread read one.variable one.element
   unread read later one reads low within writes =

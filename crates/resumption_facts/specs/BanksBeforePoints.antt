@@ -5,7 +5,7 @@ use Rattle.log_schemes.specs.Layout.{point_at}
 use Rattle.ido_base.specs.Locks.{has_lock}
 use Rattle.rv64_isa.specs.Rows.{Effect, Stores}
 use Rattle.machine_model.specs.Machine.{Hart}
-use Rattle.machine_model.specs.Schedule.{all_lives, is_point_store, schedules}
+use Rattle.machine_model.specs.Schedule.{all_lives, harts_of, is_point_store, schedules}
 use Rattle.source_machine.specs.StepExchanges.{steps_of}
 use Rattle.flow_graph.specs.Actions.{FlowState}
 use Rattle.flow_graph.specs.Lockstep.{Matches}
@@ -23,7 +23,7 @@ use Rattle.compiler_correctness.specs.Translations.{Translation, now, source, st
 -- one of the thread's steps that are begun and not kept stores the element
 abbrev pub IsUnkeptStore : Translation → List Event → (thread variable number : ℕ) → Type 0
 IsUnkeptStore c events thread variable number =
-    Writes (source c (schedules (steps c events))) thread (steps_of thread (steps c events).pending) variable number
+    Writes (source c (schedules (steps c events))) thread (steps_of thread (harts_of (steps c events).pending)) variable number
 
 -- what a hart finds that is about to store its point
 pub record FindsBank (y : System) (s : IsSystem y) (events : List Event) (h : ℕ) (effect : Effect) : Type 0 where

@@ -3,7 +3,7 @@
 use Rattle.std.specs.Prelude.{ℕ, ◌<◌, ◌≤◌, List}
 use Rattle.machine_events.specs.declared.event.Event.{Event}
 use Rattle.source_machine.specs.StepExchanges.{steps_of}
-use Rattle.machine_model.specs.Schedule.{schedules}
+use Rattle.machine_model.specs.Schedule.{harts_of, schedules}
 use Rattle.flow_graph.specs.Actions.{FlowState}
 use Rattle.flow_graph.specs.Lockstep.{Matches}
 use Rattle.flow_graph.specs.Paths.{Element}
@@ -18,7 +18,7 @@ pub record OverwritesNothingRead (c : Translation) (events : List Event) (thread
   -- where threads stand in the graph after the kept steps
   pub flow : FlowState
   pub matches : Matches c.flat flow (source c (schedules (steps c events)))
-  pub unread : (read later : ℕ) (one : Element) → Reads c.flat flow thread read one → read ≤ later → later < steps_of thread (steps c events).pending →
+  pub unread : (read later : ℕ) (one : Element) → Reads c.flat flow thread read one → read ≤ later → later < steps_of thread (harts_of (steps c events).pending) →
       WritesAt (source c (schedules (steps c events))) thread later one.variable one.element →
       Writes (source c (schedules (steps c events))) thread read one.variable one.element
 

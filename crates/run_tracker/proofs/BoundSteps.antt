@@ -1,28 +1,9 @@
--- Steps that are bound to positions: their order, and how many of them are durable.
-use Rattle.std.proofs.Common.{◌≡◌, ℕ, ◌+◌, ◌<◌, ◌≤◌, List, [], ◌∷◌, ◌++◌, filter, Bool, true}
+-- Steps that are bound to positions, and how many of them are durable.
+use Rattle.std.proofs.Common.{◌≡◌, ℕ, ◌+◌, ◌<◌, ◌≤◌, List, [], ◌∷◌, filter, Bool, true}
 use Rattle.std.proofs.Common.{false, nat_lt, nat_le, if◌then◌else◌, refl, ap, ◌∙◌, arith, inl, inr}
 use Rattle.std.proofs.lemmas.Bool.{ltb-true, lt-ltb, le-leb, leb-true, cases_lt}
 use Rattle.std.proofs.lemmas.List.Sums.{sum_by-cons}
-use Rattle.machine_model.specs.Schedule.{Bound, durable_steps}
-use Rattle.run_tracker.specs.links.AccountRepresentation.{AllFrom, AllUpTo, IsAscending, total}
-
--- ---- Order
-
-pub up_to_more : (p q : ℕ) (bs : List Bound) → p ≤ q → AllUpTo p bs → AllUpTo q bs
-up_to_more p q [] le h = tt
-up_to_more p q (b ∷ bs) le h = (omega (arith, h.0), up_to_more p q bs le h.1)
-
-pub from_push : (p : ℕ) (bs : List Bound) (b : Bound) → AllFrom p bs → p ≤ b.position → AllFrom p (bs ++ b ∷ [])
-from_push p [] b h le = (le, tt)
-from_push p (c ∷ cs) b h le = (h.0, from_push p cs b h.1 le)
-
-pub up_to_push : (p : ℕ) (bs : List Bound) (b : Bound) → AllUpTo p bs → b.position ≤ p → AllUpTo p (bs ++ b ∷ [])
-up_to_push p [] b h le = (le, tt)
-up_to_push p (c ∷ cs) b h le = (h.0, up_to_push p cs b h.1 le)
-
-pub ascending_push : (bs : List Bound) (b : Bound) → IsAscending bs → AllUpTo b.position bs → IsAscending (bs ++ b ∷ [])
-ascending_push [] b h u = (tt, tt)
-ascending_push (c ∷ cs) b h u = (from_push c.position cs b h.0 u.0, ascending_push cs b h.1 u.1)
+use Rattle.run_tracker.specs.links.AccountRepresentation.{AllFrom, Bound, durable_steps, total}
 
 -- ---- Those bound to later positions than the durable one
 
@@ -75,24 +56,3 @@ none_durable d p (b ∷ bs) less h = durable_no d b bs (omega (arith, h.0)) ∙ 
 pub all_later : (d p : ℕ) (bs : List Bound) → d < p → AllFrom p bs → later d bs ≡ bs
 all_later d p [] less h = refl
 all_later d p (b ∷ bs) less h = later_yes d b bs (omega (arith, h.0)) ∙ ap (λ (cs : List Bound). b ∷ cs) (all_later d p bs less h.1)
-
-pub from_later : (p d : ℕ) (bs : List Bound) → AllFrom p bs → AllFrom p (later d bs)
-from_later p d [] h = tt
-from_later p d (b ∷ bs) h = elim (cases_lt d b.position) [
-  | inl above ↦ rw (later_yes d b bs above) (h.0, from_later p d bs h.1)
-  | inr below ↦ rw (later_no d b bs below) (from_later p d bs h.1)
-]
-
-pub up_to_later : (p d : ℕ) (bs : List Bound) → AllUpTo p bs → AllUpTo p (later d bs)
-up_to_later p d [] h = tt
-up_to_later p d (b ∷ bs) h = elim (cases_lt d b.position) [
-  | inl above ↦ rw (later_yes d b bs above) (h.0, up_to_later p d bs h.1)
-  | inr below ↦ rw (later_no d b bs below) (up_to_later p d bs h.1)
-]
-
-pub ascending_later : (d : ℕ) (bs : List Bound) → IsAscending bs → IsAscending (later d bs)
-ascending_later d [] h = tt
-ascending_later d (b ∷ bs) h = elim (cases_lt d b.position) [
-  | inl above ↦ rw (later_yes d b bs above) (from_later b.position d bs h.0, ascending_later d bs h.1)
-  | inr below ↦ rw (later_no d b bs below) (ascending_later d bs h.1)
-]

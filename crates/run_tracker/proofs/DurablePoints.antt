@@ -13,14 +13,14 @@ use Rattle.ido_base.specs.Words.{Word, word_of, word_at, durable_value}
 use Rattle.ido_base.specs.Growth.{IsChanged}
 use Rattle.rv64_isa.specs.declared.object.Slot.{Slot}
 use Rattle.machine_model.specs.Frames.{IsWellFormedWorld}
-use Rattle.machine_model.specs.Schedule.{Steps, hart_steps}
+use Rattle.machine_model.specs.Schedule.{Steps}
 use Rattle.machine_model.specs.Machine.{World, after_crash_of, happens, after_event, reply_to, durable_point}
 use Rattle.ido_machine.specs.declared.machine.Machine.{Machine}
 use Rattle.ido_machine.specs.Machines.{RepresentsMachine, program_in}
 use Rattle.run_tracker.specs.declared.sections.HartSections.{HartSections}
 use Rattle.run_tracker.specs.declared.sections.Sections.{Sections}
 use Rattle.run_tracker.specs.ObjectLives.{ends_at_point}
-use Rattle.run_tracker.specs.links.AccountRepresentation.{AllFrom, AreOpen, point_word}
+use Rattle.run_tracker.specs.links.AccountRepresentation.{AreOpen, IsNoneDurable, point_word}
 use Rattle.run_tracker.specs.links.LifeParts.{is_drained, may_persist}
 use Rattle.run_tracker.specs.links.SectionRepresentation.{AreAbove, AreSections, AreSeen, looked_at, section_at, seen_at}
 use Rattle.run_tracker.proofs.DurableWordsStay.{undrained}
@@ -103,9 +103,9 @@ point_kept program w Crash h sound there same = crash_keeps w.words (point_word 
 point_kept program w Start h sound there same =
     after_start program w (λ (v : World). durable_point v.log v.words h ≡ durable_point w.log w.words h) refl refl
 
--- no steps are bound up to where points were seen
-pub above_seen : (sections : Sections) (harts : ℕ) (w : World) (s : Steps) → AreSeen sections harts w → AreOpen w.log w.words s → AreAbove sections harts s
-above_seen sections harts w s seen is_open h below = subst (λ (p : ℕ). AllFrom (p + 1) (hart_steps s h).bound) (sym (seen h below)) (is_open h)
+-- no pending steps are bound up to where points were seen
+pub above_seen : (sections : Sections) (harts : ℕ) (w : World) (s : Steps) → AreSeen sections harts w → AreOpen harts w.log w.words s → AreAbove sections harts s
+above_seen sections harts w s seen is_open h below = subst (λ (p : ℕ). IsNoneDurable h p s.pending) (sym (seen h below)) (is_open h below)
 
 none_ends : (b : Bool) → (not b && b) ≡ false
 none_ends true = refl

@@ -57,11 +57,11 @@ module _ (earlier : List (Vec ℕ Global)) (schedule first all given : List ℕ)
   pub given_count : length given ≡ kept_count earlier schedule
   given_count = omega (arith, ap length given_is, ap length all_is, length-append first schedule, ap length first_is)
 
-  pub is_accounted : (harts : ℕ) (account : Account) → AccountInv account (first_steps harts (only_life given)) →
-      AccountInv account (first_steps harts (lives_in earlier schedule))
+  pub is_accounted : (harts : ℕ) (account : Account) → AccountInv account (first_steps (only_life given)) →
+      AccountInv account (first_steps (lives_in earlier schedule))
   is_accounted harts account a = record {
     kept = sym (given_is ∙ all_is ∙ ap (λ (steps : List ℕ). steps ++ schedule) first_is) ∙ a.kept;
-    count = a.count;
     each = a.each;
+    some = a.some;
     within = a.within;
   }

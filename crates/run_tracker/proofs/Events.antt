@@ -1,8 +1,6 @@
 -- What an event does to steps, and to what is counted along events.
-use Rattle.std.proofs.Common.{◌≡◌, ℕ, zero, suc, ◌+◌, ◌<◌, ◌≤◌, List, [], ◌∷◌, ◌++◌, length, replicate, sum_by, subst, sym}
-use Rattle.std.proofs.Common.{Bool, true, false, cond, if◌then◌else◌, refl, ap, ◌∙◌, arith, inl, length-set}
-use Rattle.std.proofs.lemmas.List.{length-replicate}
-use Rattle.std.proofs.lemmas.List.Sums.{sum_by-cons}
+use Rattle.std.proofs.Common.{◌≡◌, ℕ, ◌+◌, ◌≤◌, List, [], ◌∷◌, ◌++◌, length, subst, sym}
+use Rattle.std.proofs.Common.{Bool, true, false, cond, if◌then◌else◌, refl, ap, ◌∙◌, arith, inl}
 use Rattle.machine_model.proofs.Public.{log_stays, outcome_of}
 use Rattle.run_tracker.proofs.LivesEnd.{next_keeps}
 use Rattle.log_schemes.specs.declared.log.Log.{Log}
@@ -16,13 +14,12 @@ use Rattle.rv64_isa.specs.declared.object.Slot.{Slot}
 use Rattle.machine_model.specs.Frames.{IsWellFormedWorld}
 use Rattle.machine_model.proofs.Public.{steps_touch, evictions_touch}
 use Rattle.machine_model.specs.Machine.{World, after_event, after_events, can_start, happens}
-use Rattle.machine_model.specs.Schedule.{Steps, next_life, no_steps, with_begun, with_bound, with_step, with_all_kept}
+use Rattle.machine_model.specs.Schedule.{Steps, next_life, with_begun, with_stored, with_step, with_all_kept}
 use Rattle.machine_model.specs.Schedule.{steps_after, steps_along, passes_mark, stores_point, finishes_fence}
-use Rattle.run_tracker.specs.links.AccountRepresentation.{AreOrdered, weight, hart_weight, point_word}
+use Rattle.run_tracker.specs.links.AccountRepresentation.{AreOrdered, weight, point_word}
 use Rattle.run_tracker.specs.ObjectLives.{LifeConfig, living, ends_at_point}
-use Rattle.run_tracker.specs.links.LifeParts.{IsAmong}
-use Rattle.run_tracker.proofs.StepTotals.{weight-begun, weight-bound, weight-all_kept, harts-all_kept}
-use Rattle.run_tracker.proofs.BoundStepOrder.{ordered_later, ordered-begun, ordered-bound, ordered-all_kept, ordered-none}
+use Rattle.run_tracker.proofs.StepTotals.{weight-begun, weight-stored, weight-all_kept}
+use Rattle.run_tracker.proofs.StepOrder.{ordered_later, ordered-begun, ordered-stored, ordered-all_kept}
 
 -- ---- One more event
 
@@ -64,31 +61,22 @@ sections_more m events event h =
     passed_count-more living ends m events event
     ∙ ap (λ (n : LifeConfig). passed_count living ends m events + cond (ends n event) 1 0) (played_is m events)
 
--- ---- What a step begins and binds
+-- ---- What a step begins and stores
 
--- a step is begun if a mark was passed, and steps are bound if the point was stored
+-- a step is begun if a mark was passed, and the hart's steps are followed by a store if the point was stored
 abbrev pub begun_if : (mark : Bool) (h : ℕ) → Steps → Steps
 begun_if mark h s = if mark then with_begun h s else s
 
 abbrev pub noted : (mark point : Bool) (h position : ℕ) → Steps → Steps
-noted mark point h position s = if point then with_bound h position (begun_if mark h s) else begun_if mark h s
+noted mark point h position s = if point then with_stored h position (begun_if mark h s) else begun_if mark h s
 
-harts-begun : (mark : Bool) (h : ℕ) (s : Steps) → length (begun_if mark h s).harts ≡ length s.harts
-harts-begun true h s = length-set s.harts h _
-harts-begun false h s = refl
+weight-begun_if : (mark : Bool) (h : ℕ) (s : Steps) → weight (begun_if mark h s) ≤ weight s + 1
+weight-begun_if true h s = omega (arith, weight-begun h s)
+weight-begun_if false h s = omega arith
 
-pub harts-noted : (mark point : Bool) (h position : ℕ) (s : Steps) → length (noted mark point h position s).harts ≡ length s.harts
-harts-noted mark true h position s = length-set (begun_if mark h s).harts h _ ∙ harts-begun mark h s
-harts-noted mark false h position s = harts-begun mark h s
-
-pub weight-begun_if : (mark : Bool) (h : ℕ) (s : Steps) → h < length s.harts → weight (begun_if mark h s) ≤ weight s + 1
-weight-begun_if true h s within = omega (arith, weight-begun h s within)
-weight-begun_if false h s within = omega arith
-
-pub weight-noted : (mark point : Bool) (h position : ℕ) (s : Steps) → h < length s.harts → weight (noted mark point h position s) ≤ weight s + 1
-weight-noted mark true h position s within =
-    omega (arith, weight-bound h position (begun_if mark h s) (omega (arith, within, harts-begun mark h s)), weight-begun_if mark h s within)
-weight-noted mark false h position s within = weight-begun_if mark h s within
+weight-noted : (mark point : Bool) (h position : ℕ) (s : Steps) → weight (noted mark point h position s) ≤ weight s + 1
+weight-noted mark true h position s = omega (arith, weight-stored h position (begun_if mark h s), weight-begun_if mark h s)
+weight-noted mark false h position s = weight-begun_if mark h s
 
 ordered-begun_if : (log : Log) (words : List Word) (mark : Bool) (h : ℕ) (s : Steps) → AreOrdered log words s → AreOrdered log words (begun_if mark h s)
 ordered-begun_if log words true h s ordered = ordered-begun log words h s ordered
@@ -98,50 +86,28 @@ pub ordered-noted : (log : Log) (words : List Word) (mark point : Bool) (h posit
     position ≡ last_position (word_at words (point_word log h)) →
     AreOrdered log words s → AreOrdered log words (noted mark point h position s)
 ordered-noted log words mark true h position s e ordered =
-    ordered-bound log words h position (begun_if mark h s) e (ordered-begun_if log words mark h s ordered)
+    ordered-stored log words h position (begun_if mark h s) e (ordered-begun_if log words mark h s ordered)
 ordered-noted log words mark false h position s e ordered = ordered-begun_if log words mark h s ordered
 
 -- ---- Steps after an event
 
-pub harts-after : (marks : List (List ℕ)) (program : List (List Slot)) (w : World) (event : Event) (s : Steps) →
-    length (steps_after marks program w event s).harts ≡ length s.harts
-unfolding steps_after
-harts-after marks program w (Step h) s =
-    harts-all_kept w.log _ (length s.harts) (with_step marks program w h s)
-    ∙ harts-noted (passes_mark marks program w h) (stores_point program w (Step h) h) h _ s
-harts-after marks program w (Evict line mask) s = harts-all_kept w.log _ (length s.harts) s
-harts-after marks program w Crash s = length-replicate (length s.harts) no_steps
-harts-after marks program w Start s = by (can_start w)
-  where
-    by : (may : Bool) → length (if may then next_life s else s).harts ≡ length s.harts
-    by true = length-replicate (length s.harts) no_steps
-    by false = refl
-
-pub weightless : (count : ℕ) → sum_by hart_weight (replicate count no_steps) ≡ 0
-weightless zero = refl
-weightless (suc count) = sum_by-cons hart_weight no_steps (replicate count no_steps) ∙ omega (arith, weightless count)
-
-pub weight-after : (log : Log) (marks : List (List ℕ)) (program : List (List Slot)) (w : World) (event : Event) (s : Steps) →
-    IsAmong log (length s.harts) event →
+pub weight-after : (marks : List (List ℕ)) (program : List (List Slot)) (w : World) (event : Event) (s : Steps) →
     weight (steps_after marks program w event s) ≤ weight s + 1
 unfolding steps_after
-weight-after log marks program w (Step h) s valid =
-    let position = last_position (word_at (after_event program w (Step h)).words (point_word w.log h)) in
-    let mark = passes_mark marks program w h in
-    let point = stores_point program w (Step h) h in
+weight-after marks program w (Step h) s =
+    let words = (after_event program w (Step h)).words in
     omega (
       arith,
-      weight-all_kept w.log (after_event program w (Step h)).words (length s.harts) (with_step marks program w h s)
-          (omega (arith, harts-noted mark point h position s)),
-      weight-noted mark point h position s valid,
+      weight-all_kept w.log words (length program) (with_step marks program w h s),
+      weight-noted (passes_mark marks program w h) (stores_point program w (Step h) h) h (last_position (word_at words (point_word w.log h))) s,
     )
-weight-after log marks program w (Evict line mask) s valid =
-    omega (arith, weight-all_kept w.log (after_event program w (Evict line mask)).words (length s.harts) s (omega arith))
-weight-after log marks program w Crash s valid = omega (arith, weightless (length s.harts))
-weight-after log marks program w Start s valid = by (can_start w)
+weight-after marks program w (Evict line mask) s =
+    omega (arith, weight-all_kept w.log (after_event program w (Evict line mask)).words (length program) s)
+weight-after marks program w Crash s = omega arith
+weight-after marks program w Start s = by (can_start w)
   where
     by : (may : Bool) → weight (if may then next_life s else s) ≤ weight s + 1
-    by true = omega (arith, ap length (next_keeps s), weightless (length s.harts))
+    by true = omega (arith, ap length (next_keeps s))
     by false = omega arith
 
 pub changed_by_step : (program : List (List Slot)) (w : World) (h : ℕ) → IsWellFormedWorld w → AreChanged w.words (after_event program w (Step h)).words
@@ -159,20 +125,18 @@ unfolding steps_after happens
 ordered-after marks program w (Step h) s sound ordered =
     let words = (after_event program w (Step h)).words in
     subst (λ (l : Log). AreOrdered l words (steps_after marks program w (Step h) s)) (sym (log_stays program w (Step h) sound))
-    (ordered-all_kept w.log words words (length s.harts) (with_step marks program w h s)
+    (ordered-all_kept w.log words words (length program) (with_step marks program w h s)
     (ordered-noted w.log words (passes_mark marks program w h) (stores_point program w (Step h) h) h (last_position (word_at words (point_word w.log h))) s refl
     (ordered_later w.log w.words words s (changed_by_step program w h sound) ordered)))
 ordered-after marks program w (Evict line mask) s sound ordered =
     let words = (after_event program w (Evict line mask)).words in
     subst (λ (l : Log). AreOrdered l words (steps_after marks program w (Evict line mask) s)) (sym (log_stays program w (Evict line mask) sound))
-    (ordered-all_kept w.log words words (length s.harts) s (ordered_later w.log w.words words s (changed_by_eviction program w line mask) ordered))
-ordered-after marks program w Crash s sound ordered =
-    ordered-none (after_event program w Crash).log (after_event program w Crash).words (record s { pending = []; harts = replicate (length s.harts) no_steps })
-    (length s.harts) refl
+    (ordered-all_kept w.log words words (length program) s (ordered_later w.log w.words words s (changed_by_eviction program w line mask) ordered))
+ordered-after marks program w Crash s sound ordered = record { in_order = λ h. tt; up_to = λ h. tt }
 ordered-after marks program w Start s sound ordered = by (can_start w)
   where
     by : (may : Bool) → AreOrdered (outcome_of program w may).0.log (outcome_of program w may).0.words (if may then next_life s else s)
-    by true = ordered-none w.log w.words (next_life s) (length s.harts) refl
+    by true = record { in_order = λ h. tt; up_to = λ h. tt }
     by false = ordered
 
 -- ---- What was noted of an event is what the definition says
@@ -186,7 +150,7 @@ noted_is marks program w h s mark point position mark_is point_is position_is =
     ∙ ap (λ (p : Bool). noted (passes_mark marks program w h) p h position s) point_is
     ∙ ap (λ (p : ℕ). noted (passes_mark marks program w h) (stores_point program w (Step h) h) h p s) position_is
 
-pub eviction_is : (marks : List (List ℕ)) (program : List (List Slot)) (w : World) (line mask : ℕ) (s : Steps) (n : ℕ) → n ≡ length s.harts
+pub eviction_is : (marks : List (List ℕ)) (program : List (List Slot)) (w : World) (line mask : ℕ) (s : Steps) (n : ℕ) → n ≡ length program
     → with_all_kept w.log (after_event program w (Evict line mask)).words n s ≡ steps_after marks program w (Evict line mask) s
 unfolding steps_after
 eviction_is marks program w line mask s n n_is = ap (λ (k : ℕ). with_all_kept w.log (after_event program w (Evict line mask)).words k s) n_is

@@ -15,7 +15,8 @@ mod LifeChanges
 mod LifeAfterEvent
 mod LifeOpenings
 mod StepsStayOpen
-mod BoundStepOrder
+mod OwnSteps
+mod StepOrder
 mod PointWords
 mod StoreScans
 mod SignObservations

@@ -6,19 +6,19 @@ use Rattle.machine_events.specs.Cores.{point_stores, finished_fences}
 use Rattle.rv64_isa.specs.declared.object.Slot.{Slot}
 use Rattle.machine_model.specs.Executables.{node_marks}
 use Rattle.machine_model.proofs.Public.{queues_stand}
-use Rattle.machine_model.specs.Machine.{World, after_event, can_start}
+use Rattle.machine_model.specs.Machine.{World, after_event}
 use Rattle.machine_model.specs.Schedule.{Steps, steps_after, stores_point, finishes_fence}
-use Rattle.ido_machine.specs.Machines.{RepresentsMachine, log_by, program_in}
+use Rattle.ido_machine.specs.Machines.{RepresentsMachine, program_in}
 use Rattle.run_tracker.specs.declared.life.Life.TheInside.{Inside}
 use Rattle.run_tracker.specs.links.AccountRepresentation.{AccountInv, ends_then}
 use Rattle.run_tracker.specs.links.SectionRepresentation.{AreSections, section_at}
 use Rattle.run_tracker.specs.ObjectLives.{IsValidIn, world_of, steps_in, living, opening_of, sections_since, ends_at_point}
-use Rattle.run_tracker.specs.links.LifeParts.{AreCounted, HaveCounted, HasCounts, IsAmong, is_start}
+use Rattle.run_tracker.specs.links.LifeParts.{AreCounted, HaveCounted, HasCounts, is_start}
 use Rattle.run_tracker.specs.links.LifeRepresentation.{course_of, AreCounts, LifeInv}
-use Rattle.run_tracker.proofs.Events.{after_more, along_more, points_more, fences_more, sections_more, harts-after, weight-after, ordered-after}
+use Rattle.run_tracker.proofs.Events.{after_more, along_more, points_more, fences_more, sections_more, weight-after, ordered-after}
 use Rattle.run_tracker.proofs.EventCounts.{passed-few}
 use Rattle.run_tracker.proofs.LivesEnd.{ends_grow}
-use Rattle.run_tracker.proofs.LifeChanges.{AreAt, Grows, Parts, course_with, hart_count, is_among, lasts, steps_count, valid_at, with_parts}
+use Rattle.run_tracker.proofs.LifeChanges.{AreAt, Grows, Parts, course_with, hart_count, lasts, valid_at, with_parts}
 use Rattle.run_tracker.proofs.StepsStayOpen.{open-after}
 
 -- a valid event of a life has made these parts, at the world and the steps after it
@@ -74,9 +74,6 @@ module _ (life : Inside) (stands : LifeInv life) where
 
     are_at : AreAt life (event ∷ []) parts (after_event program before event) (steps_after marks program before event s)
     are_at =
-        let valid : IsAmong (log_by life.machine) (length s.harts) event =
-        subst (λ (n : ℕ). IsAmong (log_by life.machine) n event) (sym (steps_count life stands))
-        (is_among (log_by life.machine) (length program) (can_start before) event made.valid) in
         let opening = opening_of (course_of life) in
         let journal = life.journal.events in
         record {
@@ -86,10 +83,9 @@ module _ (life : Inside) (stands : LifeInv life) where
           ends = made.ends ∙ (ap (λ (places : List ℕ). ends_then (is_start event) places (length life.account.kept.items)) stands.ends
               ∙ ends_grow marks program before event s (length life.account.kept.items) (ap length stands.account.kept)
               (valid_at life stands event made.valid));
-          harts = harts-after marks program before event s;
           ordered = ordered-after marks program before event s stands.sound stands.ordered;
           are_open = open-after marks program before event s stands.sound stands.are_open;
-          light = omega (arith, weight-after (log_by life.machine) marks program before event s valid);
+          light = omega (arith, weight-after marks program before event s);
           points = counts_are life.counts.points.items parts.counts.points.items (point_stores living opening journal)
               (point_stores living opening (journal ++ event ∷ [])) (λ h. stores_point program before event h) stands.points made.counted.points
               (λ h. points_more opening journal event h);

@@ -24,9 +24,9 @@ use Rattle.run_tracker.specs.links.SectionRepresentation.{AreSections}
 use Rattle.run_tracker.specs.links.LocalRepresentation.{marks_passed, with_more_begun}
 use Rattle.run_tracker.specs.ObjectLives.{sections_since, living, opening_of, steps_in, world_of}
 use Rattle.run_tracker.specs.links.LifeRepresentation.{course_of, AreCounts, LifeInv}
-use Rattle.run_tracker.proofs.LifeChanges.{AreAt, Grows, Parts, course_with, hart_count, lasts, steps_count, with_parts}
+use Rattle.run_tracker.proofs.LifeChanges.{AreAt, Grows, Parts, course_with, hart_count, lasts, with_parts}
 use Rattle.run_tracker.proofs.LocalRuns.{HasRunLocally, has_run_locally}
-use Rattle.run_tracker.proofs.MoreBegun.{earlier-more, length-more, open-more, ordered-more, weight-more}
+use Rattle.run_tracker.proofs.MoreBegun.{earlier-more, open-more, ordered-more, weight-more}
 
 -- so many local instructions of a hart of a life: its registers and pc after them, and how many of them have passed a mark
 pub record LocalSteps (life : Inside) : Type 0 where
@@ -84,12 +84,11 @@ module _ (life : Inside) (stands : LifeInv life) (steps : LocalSteps life) (part
         account = adopted.account;
         ends = ap (λ (v : Vec ℕ Global). v.items) adopted.ends ∙ (stands.ends
             ∙ ap (ends_from 0) (sym (earlier-more steps.h steps.passed s)));
-        harts = length-more steps.h steps.passed s;
         ordered = ordered-more before.log before.words steps.h steps.passed s stands.ordered;
-        are_open = open-more before.log before.words steps.h steps.passed s stands.are_open;
+        are_open = open-more harts before.log before.words steps.h steps.passed s stands.are_open;
         light = omega (
           arith,
-          weight-more steps.h steps.passed s (omega (arith, steps.exists, steps_count life stands)),
+          weight-more steps.h steps.passed s,
           steps.few,
           length-replicate steps.made (Step steps.h),
         );

@@ -57,6 +57,7 @@ pub record Grows (life : Inside) (more : List Event) (parts : Parts) : Type 0 wh
   pub events : events_of parts.machine ≡ events_of life.machine + length more
   pub journal : parts.journal ≡ record life.journal { events = life.journal.events ++ more }
   pub room : length life.journal.events + length more ≤ life.cap
+  pub harts : length parts.account.harts.items ≡ length life.account.harts.items
   pub kept_room : vec_capacity parts.account.kept ≡ vec_capacity life.account.kept
   pub stores_room : vec_capacity parts.account.stores ≡ vec_capacity life.account.stores
   pub stores : vec_len parts.account.stores ≤ vec_len life.account.stores + length more
@@ -69,9 +70,8 @@ pub record AreAt (life : Inside) (more : List Event) (parts : Parts) (w : World)
   pub sound : IsWellFormedWorld w
   pub account : AccountInv parts.account s
   pub ends : parts.ends.items ≡ ends_from 0 s.earlier
-  pub harts : length s.harts ≡ length (steps_in (course_of life)).harts
   pub ordered : AreOrdered w.log w.words s
-  pub are_open : AreOpen w.log w.words s
+  pub are_open : AreOpen (length (program_in life.machine)) w.log w.words s
   pub light : weight s ≤ weight (steps_in (course_of life)) + length more
   pub points : AreCounts parts.counts.points.items (length (program_in life.machine))
       (point_stores living (opening_of (course_of life)) (course_with life more).journal)
@@ -93,9 +93,6 @@ is_among log harts may event (inr starts) = subst (IsAmong log harts) (sym start
 module _ (life : Inside) (stands : LifeInv life) where
   pub hart_count : length (world_of (course_of life)).harts ≡ length (program_in life.machine)
   hart_count = omega (arith, stands.machine.standing.count, life.machine.sized, life.machine.harts.ok.0)
-
-  pub steps_count : length (steps_in (course_of life)).harts ≡ length (program_in life.machine)
-  steps_count = stands.account.count ∙ stands.harts
 
   -- an event that may be asked of it may be asked of its machine
   pub valid_at : (event : Event) → IsValidIn (course_of life) event → IsValidAt (world_of (course_of life)) event
@@ -134,9 +131,9 @@ module _ (life : Inside) (stands : LifeInv life) where
       tables = subst (λ (p : List (List Slot)). AreTables life.tables.items p (node_marks life.marks.threads.items)) (sym grown.program) stands.tables;
       marked = stands.marked ∙ ap length (sym grown.program);
       account = moved (λ (x : Course). AccountInv parts.account (steps_in x)) at.account;
-      harts = sym at.account.count ∙ at.harts ∙ steps_count ∙ ap length (sym grown.program);
+      harts = grown.harts ∙ stands.harts ∙ ap length (sym grown.program);
       ordered = moved (λ (x : Course). AreOrdered (world_of x).log (world_of x).words (steps_in x)) at.ordered;
-      are_open = moved (λ (x : Course). AreOpen (world_of x).log (world_of x).words (steps_in x)) at.are_open;
+      are_open = moved (λ (x : Course). AreOpen (length x.runs.program) (world_of x).log (world_of x).words (steps_in x)) at.are_open;
       light = moved (λ (x : Course). weight (steps_in x) ≤ kept_first life + length parts.journal.events)
           (omega (arith, at.light, stands.light, longer));
       points = moved (λ (x : Course). AreCounts parts.counts.points.items (length x.runs.program) (point_stores living (opening_of x) x.journal)) at.points;

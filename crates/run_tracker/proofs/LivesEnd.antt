@@ -70,7 +70,7 @@ module _ (marks : List (List ℕ)) (program : List (List Slot)) (w : World) wher
 -- ---- The account of another life
 
 pub closed : (account : Account) (s : Steps) → AccountInv account (without_open s) → AccountInv account (next_life s)
-closed account s a = record { kept = next_keeps s ∙ a.kept; count = a.count; each = a.each; within = a.within }
+closed account s a = record { kept = next_keeps s ∙ a.kept; each = a.each; some = a.some; within = a.within }
 
 -- ---- A life among all kept steps
 

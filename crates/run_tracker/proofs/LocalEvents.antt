@@ -1,6 +1,6 @@
 -- A step of a hart whose next instruction is local.
-use Rattle.std.proofs.Common.{◌≡◌, ◌⊎◌, ℕ, List, [], length, slice_get, Option, Some, None, Bool}
-use Rattle.std.proofs.Common.{true, false, not, ◌&&◌, if◌then◌else◌, refl, ap, sym, subst, ◌∙◌, inl, inr}
+use Rattle.std.proofs.Common.{◌≡◌, ◌⊎◌, ℕ, List, length, slice_get, Option, Some, None, Bool}
+use Rattle.std.proofs.Common.{true, false, not, ◌&&◌, if◌then◌else◌, refl, ap, sym, subst, ◌∙◌, arith, inl, inr}
 use Rattle.std.proofs.lemmas.Bool.{cases_eq}
 use Rattle.machine_events.specs.declared.event.Event.TheVariants.{Step}
 use Rattle.machine_events.specs.declared.event.Reply.TheVariants.{Moved}
@@ -110,7 +110,7 @@ module _ (program : List (List Slot)) (w : World) (h : ℕ) (hart : Hart) (s : L
 
   -- ---- It begins a step of the source where it is a mark, and none is kept
 
-  module _ (marks : List (List ℕ)) (steps : Steps) (is_open : AreOpen w.log w.words steps) where
+  module _ (marks : List (List ℕ)) (steps : Steps) (is_open : AreOpen (length program) w.log w.words steps) where
     with_step-is : with_step marks program w h steps ≡ begun_if (is_mark marks h hart.pc) h steps
     with_step-is =
         sym (noted_is marks program w h steps (is_mark marks h hart.pc) false
@@ -120,7 +120,7 @@ module _ (program : List (List Slot)) (w : World) (h : ℕ) (hart : Hart) (s : L
     pub steps_are : steps_after marks program w (Step h) steps ≡ begun_if (is_mark marks h hart.pc) h steps
     unfolding steps_after
     steps_are =
-        ap (λ (v : World). with_all_kept w.log v.words (length steps.harts) (with_step marks program w h steps)) world_is
-        ∙ ap (with_all_kept w.log w.words (length steps.harts)) with_step-is
-        ∙ all_kept_none w.log w.words (length steps.harts) (begun_if (is_mark marks h hart.pc) h steps)
-        (open-noted w.log w.words w.words (is_mark marks h hart.pc) false h 0 steps (λ e. cc) (λ j. refl) is_open)
+        ap (λ (v : World). with_all_kept w.log v.words (length program) (with_step marks program w h steps)) world_is
+        ∙ ap (with_all_kept w.log w.words (length program)) with_step-is
+        ∙ all_kept_none (length program) w.log w.words (length program) (begun_if (is_mark marks h hart.pc) h steps) (omega arith)
+        (open-noted (length program) w.log w.words w.words (is_mark marks h hart.pc) false h 0 steps (λ e. cc) (λ j. refl) is_open)

@@ -70,10 +70,10 @@ pub record HasRunLocally (life : Course) (h : ℕ) (hart : Hart) (n : ℕ) (s : 
   pub sections : (g : ℕ) → sections_since (with_steps life h n) g ≡ sections_since life g
 
 module _ (life : Course) (h : ℕ) (hart : Hart) (there : slice_get (world_of life).harts h ≡ Some hart)
-    (is_open : AreOpen (world_of life).log (world_of life).words (steps_in life)) (sound : IsWellFormedWorld (world_of life))
+    (is_open : AreOpen (length life.runs.program) (world_of life).log (world_of life).words (steps_in life)) (sound : IsWellFormedWorld (world_of life))
     (count : length life.runs.program ≡ length (world_of life).harts) where
   abbrev start_steps : Steps
-  start_steps = first_steps (length life.runs.program) life.kept_before
+  start_steps = first_steps life.kept_before
 
   start : HasRunLocally life h hart zero (local_state_of hart)
   start =
@@ -112,12 +112,12 @@ module _ (life : Course) (h : ℕ) (hart : Hart) (there : slice_get (world_of li
     pub moves : reply_to life.runs.program w (Step h) ≡ Moved
     moves = reply_is life.runs.program w h at t at_there running local
 
-    open_now : AreOpen w.log w.words (steps_in (with_steps life h n))
+    open_now : AreOpen (length life.runs.program) w.log w.words (steps_in (with_steps life h n))
     open_now =
         let passed = marks_passed (slice_index_or life.runs.marks h []) (placed_code life.runs.program h) (local_state_of hart) n in
-        subst (λ (v : World). AreOpen v.log v.words (steps_in (with_steps life h n))) (sym ahead.world)
-        (subst (AreOpen (world_of life).log (world_of life).words) (sym ahead.steps)
-        (open-more (world_of life).log (world_of life).words h passed (steps_in life) is_open))
+        subst (λ (v : World). AreOpen (length life.runs.program) v.log v.words (steps_in (with_steps life h n))) (sym ahead.world)
+        (subst (AreOpen (length life.runs.program) (world_of life).log (world_of life).words) (sym ahead.steps)
+        (open-more (length life.runs.program) (world_of life).log (world_of life).words h passed (steps_in life) is_open))
 
     after : world_of (with_steps life h (suc n)) ≡ after_event life.runs.program w (Step h)
     after = ap (after_events life.runs.program life.opening) more ∙ after_more life.runs.program life.opening journal (Step h)

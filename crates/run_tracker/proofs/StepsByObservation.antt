@@ -96,18 +96,18 @@ module _ (program : List (List Slot)) (marks : List (List ℕ)) (machine : Machi
       by_running (inl running) = by_moved running (cases_Bool (has_moved (reply_to program w (Step h))))
       by_running (inr none) = none_stores (none_running program w h stepped.seen.hart stepped.seen.found none)
 
-  pub kept_none : is_drained reply ≡ false → (s : Steps) → AreOpen w.log w.words s → steps_after marks program w (Step h) s ≡ with_step marks program w h s
+  pub kept_none : is_drained reply ≡ false → (s : Steps) → AreOpen (length program) w.log w.words s → steps_after marks program w (Step h) s ≡ with_step marks program w h s
   unfolding steps_after
   kept_none quiet s is_open =
-      all_kept_none w.log next.words (length s.harts) (with_step marks program w h s)
-      (open-noted w.log w.words next.words (passes_mark marks program w h) (stores_point program w (Step h) h) h (last_in next) s (above quiet)
+      all_kept_none (length program) w.log next.words (length program) (with_step marks program w h s) (omega arith)
+      (open-noted (length program) w.log w.words next.words (passes_mark marks program w h) (stores_point program w (Step h) h) h (last_in next) s (above quiet)
       (undrained program h w (ap is_drained (sym stepped.replied) ∙ quiet)) is_open)
 
-  pub kept_after : completing program w h ≡ None → (s : Steps) (n : ℕ) → n ≡ length s.harts →
+  pub kept_after : completing program w h ≡ None → (s : Steps) (n : ℕ) → n ≡ length program →
       with_all_kept w.log next.words n s ≡ steps_after marks program w (Step h) s
   unfolding steps_after
   kept_after none s n n_is =
-      ap (λ (k : ℕ). with_all_kept w.log next.words k s) n_is ∙ ap (with_all_kept w.log next.words (length s.harts)) (sym (steps_none none s))
+      ap (λ (k : ℕ). with_all_kept w.log next.words k s) n_is ∙ ap (with_all_kept w.log next.words (length program)) (sym (steps_none none s))
 
   -- ---- A hart that has completed an instruction
 

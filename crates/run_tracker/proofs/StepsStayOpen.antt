@@ -1,9 +1,9 @@
--- Where no bound steps are durable none are kept, and after each event none are.
-use Rattle.std.proofs.Common.{◌≡◌, ◌⊎◌, ℕ, zero, suc, ◌+◌, ◌<◌, ◌≤◌, List, [], ◌∷◌, ◌++◌, length, replicate, slice_set, get_or}
-use Rattle.std.specs.Prelude.{if◌then◌else◌}
-use Rattle.std.proofs.Common.{Bool, true, false, inl, inr, refl, ap, sym, subst, ◌∙◌, arith, get_or-set_same, get_or-set_other}
-use Rattle.std.proofs.lemmas.Bool.{cases_eq, cases_lt}
-use Rattle.std.proofs.lemmas.List.{append-nil, set-get_or, get_or_past}
+-- Where no pending steps are durable none are kept, and after each event none are.
+use Rattle.std.proofs.Common.{◌≡◌, ◌⊎◌, ℕ, zero, suc, ◌<◌, ◌≤◌, List, [], ◌∷◌, ◌++◌, length, map, filter, Some, None}
+use Rattle.std.specs.Prelude.{if◌then◌else◌, is_none}
+use Rattle.std.proofs.Common.{Bool, true, false, not, nat_le, ◌==◌, ◌&&◌, inl, inr, refl, ap, sym, subst, ◌∙◌, arith}
+use Rattle.std.proofs.lemmas.Bool.{and_parts, cases_eq, eqb-true, leb-true, ne_eqb}
+use Rattle.std.proofs.lemmas.List.{append-nil}
 use Rattle.machine_model.specs.Frames.{IsWellFormedWorld}
 use Rattle.machine_model.proofs.Public.{outcome_of, log_stays}
 use Rattle.log_schemes.specs.declared.log.Log.{Log}
@@ -12,133 +12,148 @@ use Rattle.machine_events.specs.declared.event.Event.TheVariants.{Step, Evict, C
 use Rattle.ido_base.specs.Words.{Word, word_at}
 use Rattle.rv64_isa.specs.declared.object.Slot.{Slot}
 use Rattle.machine_model.specs.Machine.{World, after_event, can_start, happens}
-use Rattle.machine_model.specs.Schedule.{Steps, HartSteps, Bound, hart_steps, next_life, no_steps, with_kept, with_all_kept}
-use Rattle.machine_model.specs.Schedule.{with_step, without, durable_steps, steps_after, passes_mark, stores_point}
-use Rattle.run_tracker.specs.links.AccountRepresentation.{AllFrom, AreOpen, point_word}
-use Rattle.run_tracker.proofs.BoundSteps.{later, later_yes, later_no, none_durable, all_later, from_push}
+use Rattle.machine_model.specs.Schedule.{PendingStep, Steps, harts_of, is_durable, next_life, steps_after, then_stored, with_all_kept, with_kept}
+use Rattle.machine_model.specs.Schedule.{with_step}
+use Rattle.run_tracker.specs.links.AccountRepresentation.{AreOpen, IsNoneDurable, point_word, step_at}
 use Rattle.run_tracker.proofs.DurableWordsStay.{SameDurable}
-use Rattle.run_tracker.proofs.Events.{begun_if, noted, harts-noted}
-use Rattle.run_tracker.proofs.BoundStepOrder.{each_hart, no_steps_anywhere}
-use Rattle.run_tracker.proofs.StepTotals.{harts-all_kept}
+use Rattle.run_tracker.proofs.Events.{begun_if, noted}
+use Rattle.run_tracker.proofs.OwnSteps.{filter_no, left}
 
 -- ---- Nothing is kept
 
-without_none : (h : ℕ) (xs : List ℕ) → without h 0 xs ≡ xs
-without_none h [] = refl
-without_none h (x ∷ xs) = refl
+module _ (h d : ℕ) where
+  none_durable : (xs : List PendingStep) → IsNoneDurable h d xs → filter (is_durable h d) xs ≡ []
+  none_durable [] none = refl
+  none_durable (x ∷ xs) none = filter_no (is_durable h d) x xs none.0 ∙ none_durable xs none.1
 
-pub kept_none : (log : Log) (words : List Word) (h : ℕ) (s : Steps) → AllFrom ((word_at words (point_word log h)).durable + 1) (hart_steps s h).bound →
+  all_left : (xs : List PendingStep) → IsNoneDurable h d xs → filter (left h d) xs ≡ xs
+  all_left [] none = refl
+  all_left (x ∷ xs) none =
+      ap (λ (b : Bool). if not b then x ∷ filter (left h d) xs else filter (left h d) xs) none.0
+      ∙ ap (λ (ys : List PendingStep). x ∷ ys) (all_left xs none.1)
+
+  -- among some of the steps none is durable either
+  some_of : (test : PendingStep → Bool) (xs : List PendingStep) → IsNoneDurable h d xs → IsNoneDurable h d (filter test xs)
+  some_of test [] none = tt
+  some_of test (x ∷ xs) none = by (test x) (some_of test xs none.1)
+    where
+      by : (b : Bool) → IsNoneDurable h d (filter test xs) → IsNoneDurable h d (if b then x ∷ filter test xs else filter test xs)
+      by true rest = (none.0, rest)
+      by false rest = rest
+
+  -- what is durable is no longer there once it is kept
+  none_left : (xs : List PendingStep) → IsNoneDurable h d (filter (left h d) xs)
+  none_left [] = tt
+  none_left (x ∷ xs) = by (is_durable h d x) refl (none_left xs)
+    where
+      by : (b : Bool) → is_durable h d x ≡ b → IsNoneDurable h d (filter (left h d) xs) →
+          IsNoneDurable h d (if not b then x ∷ filter (left h d) xs else filter (left h d) xs)
+      by true is rest = rest
+      by false is rest = (is, rest)
+
+pub kept_none : (log : Log) (words : List Word) (h : ℕ) (s : Steps) → IsNoneDurable h (word_at words (point_word log h)).durable s.pending →
     with_kept log words h s ≡ s
-kept_none log words h s above =
+kept_none log words h s none =
     let d = (word_at words (point_word log h)).durable in
-    let it = hart_steps s h in
-    let none : durable_steps d it.bound ≡ 0 = none_durable d (d + 1) it.bound (omega arith) above in
-    let all : later d it.bound ≡ it.bound = all_later d (d + 1) it.bound (omega arith) above in
-    let made : List ℕ → List ℕ → List HartSteps → Steps = λ k p hs. record { begun = s.begun; earlier = s.earlier; kept = k; pending = p; harts = hs } in
-    let set : List Bound → List HartSteps = λ bs. slice_set s.harts h (record { free = it.free; bound = bs }) in
-    ap (λ (n : ℕ). made (s.kept ++ replicate n h) (without h n s.pending) (set (later d it.bound))) none
-    ∙ ap (λ (k : List ℕ). made k (without h 0 s.pending) (set (later d it.bound))) (append-nil s.kept)
-    ∙ ap (λ (p : List ℕ). made s.kept p (set (later d it.bound))) (without_none h s.pending)
-    ∙ ap (λ (bs : List Bound). made s.kept s.pending (set bs)) all
-    ∙ ap (λ (hs : List HartSteps). made s.kept s.pending hs) (set-get_or s.harts h no_steps)
+    let kept : s.kept ++ harts_of (filter (is_durable h d) s.pending) ≡ s.kept =
+    ap (λ (xs : List PendingStep). s.kept ++ harts_of xs) (none_durable h d s.pending none) ∙ append-nil s.kept in
+    let pending : filter (left h d) s.pending ≡ s.pending = all_left h d s.pending none in
+    λ i. record { begun = s.begun; earlier = s.earlier; kept = kept i; pending = pending i }
 
-pub all_kept_none : (log : Log) (words : List Word) (n : ℕ) (s : Steps) → AreOpen log words s → with_all_kept log words n s ≡ s
-all_kept_none log words zero s is_open = refl
-all_kept_none log words (suc n) s is_open = ap (with_kept log words n) (all_kept_none log words n s is_open) ∙ kept_none log words n s (is_open n)
+pub all_kept_none : (harts : ℕ) (log : Log) (words : List Word) (n : ℕ) (s : Steps) → n ≤ harts → AreOpen harts log words s → with_all_kept log words n s ≡ s
+all_kept_none harts log words zero s within is_open = refl
+all_kept_none harts log words (suc n) s within is_open =
+    ap (with_kept log words n) (all_kept_none harts log words n s (omega (arith, within)) is_open) ∙ kept_none log words n s (is_open n (omega (arith, within)))
 
--- what is kept of the first harts changes no later one
-pub later_stays : (log : Log) (words : List Word) (n : ℕ) (s : Steps) (h : ℕ) → n ≤ h → hart_steps (with_all_kept log words n s) h ≡ hart_steps s h
-later_stays log words zero s h within = refl
-later_stays log words (suc n) s h within =
-    let other : h ≡ n → ⊥ = λ e. absurd (omega (arith, within, e)) in
-    get_or-set_other (with_all_kept log words n s).harts n h _ no_steps other ∙ later_stays log words n s h (omega (arith, within))
+-- what is kept of some harts makes none durable
+pub still_none : (log : Log) (words : List Word) (n : ℕ) (s : Steps) (h d : ℕ) → IsNoneDurable h d s.pending →
+    IsNoneDurable h d (with_all_kept log words n s).pending
+still_none log words zero s h d none = none
+still_none log words (suc n) s h d none = some_of h d _ (with_all_kept log words n s).pending (still_none log words n s h d none)
 
--- ---- What is kept is no longer bound
+-- ---- What is kept is no longer pending
 
-later_above : (d : ℕ) (bs : List Bound) → AllFrom (d + 1) (later d bs)
-later_above d [] = tt
-later_above d (b ∷ bs) = elim (cases_lt d b.position) [
-  | inl above ↦ rw (later_yes d b bs above) (omega (arith, above), later_above d bs)
-  | inr below ↦ rw (later_no d b bs below) (later_above d bs)
-]
-
-open_below : (log : Log) (words : List Word) (n : ℕ) (s : Steps) → n ≤ length s.harts → (h : ℕ) → h < n →
-    AllFrom ((word_at words (point_word log h)).durable + 1) (hart_steps (with_all_kept log words n s) h).bound
-open_below log words zero s within h below = absurd (omega arith)
-open_below log words (suc n) s within h below = by_place (cases_eq h n) (λ less. open_below log words n s (omega (arith, within)) h less)
+open-kept : (log : Log) (words : List Word) (n : ℕ) (s : Steps) → AreOpen n log words (with_all_kept log words n s)
+open-kept log words zero s h below = absurd (omega (arith, below))
+open-kept log words (suc n) s h below = by (cases_eq h n) (λ less. open-kept log words n s h less)
   where
     before : Steps
     before = with_all_kept log words n s
 
-    new : HartSteps
-    new = record { free = (hart_steps before n).free; bound = later (word_at words (point_word log n)).durable (hart_steps before n).bound }
+    IsOpen : ℕ → Type 0
+    IsOpen k = IsNoneDurable k (word_at words (point_word log k)).durable (with_kept log words n before).pending
 
-    by_place : (h ≡ n) ⊎ (h ≡ n → ⊥) → (h < n → AllFrom ((word_at words (point_word log h)).durable + 1) (hart_steps before h).bound) →
-        AllFrom ((word_at words (point_word log h)).durable + 1) (get_or (slice_set before.harts n new) h no_steps).bound
-    by_place (inl same) rest =
-        subst (λ (k : ℕ). AllFrom ((word_at words (point_word log k)).durable + 1) (get_or (slice_set before.harts n new) k no_steps).bound) (sym same)
-        (subst (λ (x : HartSteps). AllFrom ((word_at words (point_word log n)).durable + 1) x.bound)
-        (sym (get_or-set_same before.harts n new no_steps (omega (arith, harts-all_kept log words n s, within))))
-        (later_above (word_at words (point_word log n)).durable (hart_steps before n).bound))
-    by_place (inr ne) rest =
-        subst (λ (x : HartSteps). AllFrom ((word_at words (point_word log h)).durable + 1) x.bound) (sym (get_or-set_other before.harts n h new no_steps ne))
-        (rest (omega (arith, below, ne)))
+    by : (h ≡ n) ⊎ (h ≡ n → ⊥) → (h < n → IsNoneDurable h (word_at words (point_word log h)).durable before.pending) → IsOpen h
+    by (inl same) rest = subst IsOpen (sym same) (none_left n (word_at words (point_word log n)).durable before.pending)
+    by (inr other) rest = some_of h (word_at words (point_word log h)).durable _ before.pending (rest (omega (arith, below, other)))
 
-open-kept : (log : Log) (words : List Word) (n : ℕ) (s : Steps) → n ≡ length s.harts → AreOpen log words (with_all_kept log words n s)
-open-kept log words n s all h = by_place (cases_lt h n)
-  where
-    by_place : (h < n) ⊎ (n ≤ h) → AllFrom ((word_at words (point_word log h)).durable + 1) (hart_steps (with_all_kept log words n s) h).bound
-    by_place (inl below) = open_below log words n s (omega (arith, all)) h below
-    by_place (inr past) =
-        subst (λ (x : HartSteps). AllFrom ((word_at words (point_word log h)).durable + 1) x.bound)
-        (sym (get_or_past (with_all_kept log words n s).harts h no_steps (omega (arith, past, all, harts-all_kept log words n s)))) tt
-
-pub open-none : (log : Log) (words : List Word) (s : Steps) (count : ℕ) → s.harts ≡ replicate count no_steps → AreOpen log words s
-open-none log words s count e h =
-    subst (λ (x : HartSteps). AllFrom ((word_at words (point_word log h)).durable + 1) x.bound)
-    (sym (ap (λ (xs : List HartSteps). get_or xs h no_steps) e ∙ no_steps_anywhere count h)) tt
-
-pub open-after : (marks : List (List ℕ)) (program : List (List Slot)) (w : World) (event : Event) (s : Steps) → IsWellFormedWorld w → AreOpen w.log w.words s →
-    AreOpen (after_event program w event).log (after_event program w event).words (steps_after marks program w event s)
+pub open-after : (marks : List (List ℕ)) (program : List (List Slot)) (w : World) (event : Event) (s : Steps) → IsWellFormedWorld w →
+    AreOpen (length program) w.log w.words s →
+    AreOpen (length program) (after_event program w event).log (after_event program w event).words (steps_after marks program w event s)
 unfolding steps_after happens
 open-after marks program w (Step h) s sound is_open =
-    subst (λ (l : Log). AreOpen l (after_event program w (Step h)).words (steps_after marks program w (Step h) s)) (sym (log_stays program w (Step h) sound))
-    (open-kept w.log (after_event program w (Step h)).words (length s.harts) (with_step marks program w h s)
-    (sym (harts-noted (passes_mark marks program w h) (stores_point program w (Step h) h) h _ s)))
+    subst (λ (l : Log). AreOpen (length program) l (after_event program w (Step h)).words (steps_after marks program w (Step h) s))
+    (sym (log_stays program w (Step h) sound))
+    (open-kept w.log (after_event program w (Step h)).words (length program) (with_step marks program w h s))
 open-after marks program w (Evict line mask) s sound is_open =
-    subst (λ (l : Log). AreOpen l (after_event program w (Evict line mask)).words (steps_after marks program w (Evict line mask) s))
-    (sym (log_stays program w (Evict line mask) sound)) (open-kept w.log (after_event program w (Evict line mask)).words (length s.harts) s refl)
-open-after marks program w Crash s sound is_open =
-    open-none (after_event program w Crash).log (after_event program w Crash).words (record s { pending = []; harts = replicate (length s.harts) no_steps })
-    (length s.harts) refl
+    subst (λ (l : Log). AreOpen (length program) l (after_event program w (Evict line mask)).words (steps_after marks program w (Evict line mask) s))
+    (sym (log_stays program w (Evict line mask) sound)) (open-kept w.log (after_event program w (Evict line mask)).words (length program) s)
+open-after marks program w Crash s sound is_open = λ h below. tt
 open-after marks program w Start s sound is_open = by (can_start w)
   where
-    by : (may : Bool) → AreOpen (outcome_of program w may).0.log (outcome_of program w may).0.words (if may then next_life s else s)
-    by true = open-none w.log w.words (next_life s) (length s.harts) refl
+    by : (may : Bool) → AreOpen (length program) (outcome_of program w may).0.log (outcome_of program w may).0.words (if may then next_life s else s)
+    by true = λ h below. tt
     by false = is_open
 
 -- ---- A step that writes nothing back
 
--- what it binds is bound to a position that isn't durable
-pub open-noted : (log : Log) (words now : List Word) (mark point : Bool) (h position : ℕ) (s : Steps) →
-    (point ≡ true → (word_at now (point_word log h)).durable < position) →
-    SameDurable words now → AreOpen log words s → AreOpen log now (noted mark point h position s)
-open-noted log words now mark point h position s above same is_open = by_point point above
-  where
-    still : AreOpen log now s
-    still g = subst (λ (d : ℕ). AllFrom (d + 1) (hart_steps s g).bound) (sym (same (point_word log g))) (is_open g)
+and_none : (b : Bool) → (b && false) ≡ false
+and_none true = refl
+and_none false = refl
 
-    by_mark : (m : Bool) → AreOpen log now (begun_if m h s)
-    by_mark true =
-        each_hart (λ g x. AllFrom ((word_at now (point_word log g)).durable + 1) x.bound) s h
-        (record (hart_steps s h) { free = (hart_steps s h).free + 1 }) (still h) still
+none_push : (g d h : ℕ) (xs : List PendingStep) → IsNoneDurable g d xs → IsNoneDurable g d (xs ++ step_at h None ∷ [])
+none_push g d h [] none = (and_none (h == g), tt)
+none_push g d h (x ∷ xs) none = (none.0, none_push g d h xs none.1)
+
+module _ (g d h position : ℕ) (above : g ≡ h → d < position) where
+  -- what the hart stores is past what is durable
+  late : (n : ℕ) → n ≡ h → is_durable g d (step_at n (Some position)) ≡ false
+  late n own = by (cases_eq g h)
+    where
+      by_test : (b : Bool) → nat_le position d ≡ b → d < position → ((n == g) && b) ≡ false
+      by_test true le high = absurd (omega (arith, leb-true position d le, high))
+      by_test false le high = and_none (n == g)
+
+      by : (g ≡ h) ⊎ (g ≡ h → ⊥) → is_durable g d (step_at n (Some position)) ≡ false
+      by (inl same) = by_test (nat_le position d) refl (above same)
+      by (inr other) = ap (λ (b : Bool). b && nat_le position d) (ne_eqb n g (λ e. other (sym e ∙ own)))
+
+  none_then : (x : PendingStep) → is_durable g d x ≡ false → is_durable g d (then_stored h position x) ≡ false
+  none_then x none = by ((x.hart == h) && is_none x.stored) refl
+    where
+      by : (b : Bool) → ((x.hart == h) && is_none x.stored) ≡ b → is_durable g d (if b then record x { stored = Some position } else x) ≡ false
+      by true is = late x.hart (eqb-true x.hart h (and_parts (x.hart == h) (is_none x.stored) is).0)
+      by false is = none
+
+  none_stored : (xs : List PendingStep) → IsNoneDurable g d xs → IsNoneDurable g d (map (then_stored h position) xs)
+  none_stored [] none = tt
+  none_stored (x ∷ xs) none = (none_then x none.0, none_stored xs none.1)
+
+-- what it stores stands at a position that isn't durable
+pub open-noted : (harts : ℕ) (log : Log) (words now : List Word) (mark point : Bool) (h position : ℕ) (s : Steps) →
+    (point ≡ true → (word_at now (point_word log h)).durable < position) →
+    SameDurable words now → AreOpen harts log words s → AreOpen harts log now (noted mark point h position s)
+open-noted harts log words now mark point h position s above same is_open = by_point point above
+  where
+    still : AreOpen harts log now s
+    still g below = subst (λ (d : ℕ). IsNoneDurable g d s.pending) (sym (same (point_word log g))) (is_open g below)
+
+    by_mark : (m : Bool) → AreOpen harts log now (begun_if m h s)
+    by_mark true = λ g below. none_push g (word_at now (point_word log g)).durable h s.pending (still g below)
     by_mark false = still
 
-    by_point : (p : Bool) → (p ≡ true → (word_at now (point_word log h)).durable < position) → AreOpen log now (noted mark p h position s)
-    by_point true above =
-        let begun : Steps = begun_if mark h s in
-        let b : Bound = record { position = position; steps = (hart_steps begun h).free } in
-        each_hart (λ g x. AllFrom ((word_at now (point_word log g)).durable + 1) x.bound) begun h
-        (record { free = 0; bound = (hart_steps begun h).bound ++ b ∷ [] })
-        (from_push ((word_at now (point_word log h)).durable + 1) (hart_steps begun h).bound b (by_mark mark h) (omega (arith, above refl))) (by_mark mark)
+    by_point : (p : Bool) → (p ≡ true → (word_at now (point_word log h)).durable < position) → AreOpen harts log now (noted mark p h position s)
+    by_point true above = λ g below.
+        none_stored g (word_at now (point_word log g)).durable h position
+        (λ e. subst (λ (k : ℕ). (word_at now (point_word log k)).durable < position) (sym e) (above refl)) (begun_if mark h s).pending (by_mark mark g below)
     by_point false above = by_mark mark

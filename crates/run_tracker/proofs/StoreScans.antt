@@ -1,9 +1,8 @@
 -- The stores of a hart, one after another.
 use Rattle.std.proofs.Common.{◌≡◌, ℕ, ◌+◌, ◌<◌, ◌≤◌, List, ◌∷◌, drop, length, get_or, ap, sym, subst, ◌∙◌, arith}
 use Rattle.std.proofs.lemmas.List.{drop_more}
-use Rattle.machine_model.specs.Schedule.{Bound, durable_steps}
 use Rattle.run_tracker.specs.declared.account.PointStore.{PointStore}
-use Rattle.run_tracker.specs.links.AccountRepresentation.{bound_of, bound_in, IsAscending, total}
+use Rattle.run_tracker.specs.links.AccountRepresentation.{Bound, IsAscending, bound_in, bound_of, durable_steps, total}
 use Rattle.run_tracker.proofs.BoundSteps.{later, later_yes, durable_yes, durable_no, none_durable, all_later, total_split}
 use Rattle.run_tracker.proofs.AccountUpdates.{bound_yes}
 

@@ -43,7 +43,7 @@ IsValidIn life event = IsValidNow (length life.runs.program) (IsEviction life.ru
 
 -- the steps begun and kept by now
 abbrev pub steps_in : Course → Steps
-steps_in life = steps_along life.runs.marks life.runs.program life.opening life.journal (first_steps (length life.runs.program) life.kept_before)
+steps_in life = steps_along life.runs.marks life.runs.program life.opening life.journal (first_steps life.kept_before)
 
 -- the life of an object before any event, which begins at this world with these schedules kept, by which so many sections of each thread have ended
 abbrev pub life_at : Object → Marks → World → (kept : LifeSchedules) → (ended : List ℕ) → (cap : ℕ) → Course

@@ -3,14 +3,15 @@ ghost use Rattle.std.specs.Prelude.{◌≡◌, ◌+◌, ◌<◌, ◌≤◌, ◌+
 ghost use Rattle.std.specs.Vec.{vec_capacity, vec_len};
 ghost use Rattle.log_schemes.specs.declared.log.Log.{Log};
 ghost use Rattle.ido_base.specs.Words.{Word, word_at};
-ghost use Rattle.machine_model.specs.Schedule.{Steps, first_steps, only_life, no_steps, with_begun, with_bound, with_kept, durable_steps};
-ghost use Rattle.run_tracker.specs.links.AccountRepresentation.{AccountInv, IsAscending, open_at, bound_in, bound_at, total, point_word, without_open};
+ghost use Rattle.machine_model.specs.Schedule.{Steps, first_steps, only_life, with_begun, with_stored, with_kept};
+ghost use Rattle.run_tracker.specs.links.AccountRepresentation.{AccountInv, IsAscending, durable_steps, open_at, bound_in, bound_at, total, point_word};
+ghost use Rattle.run_tracker.specs.links.AccountRepresentation.{without_open};
 ghost use Rattle.run_tracker.specs.links.LocalRepresentation.{with_more_begun};
 
 use ido_base::memory::OutOfMemory;
 use std::alloc::Global;
 
-/// A store of a hart's point, with the steps that are bound to it: they are kept once the point's word is durable up
+/// A store of a hart's point, with the steps that are bound to it, at least one: they are kept once the point's word is durable up
 /// to its position.
 #[derive(Clone, Copy, Drop)]
 pub(crate) struct PointStore {
@@ -33,7 +34,7 @@ pub(crate) struct OpenSteps {
 pub(crate) struct Account {
     /// The kept schedules, one life's after another's.
     pub kept: Vec<u32>,
-    /// The stores of points since the start or the last crash, of all harts.
+    /// The stores of points since the start or the last crash to which steps are bound, of all harts.
     pub stores: Vec<PointStore>,
     pub harts: Vec<OpenSteps>,
 }
@@ -85,7 +86,8 @@ impl Account {
     /// Before any step, with a schedule that is kept already and room for so many steps more.
     pub fn new(alloc: Global, harts: u32, before: &[u32], cap: u64) -> Result<Account, OutOfMemory>
         requires few { length before.now + cap < 2 ^ 63 }
-        ensures stands { IfOk result (λ account. AccountInv account (first_steps harts (only_life before.now))) }
+        ensures stands { IfOk result (λ account. AccountInv account (first_steps (only_life before.now))) }
+        ensures harts { IfOk result (λ account. length account.harts.items ≡ harts) }
         ensures kept { IfOk result (λ account. vec_capacity account.kept ≡ length before.now + cap) }
         ensures reserved { IfOk result (λ account. vec_capacity account.stores ≡ cap) }
         ensures stores { IfOk result (λ account. vec_len account.stores ≡ 0) }
@@ -107,6 +109,7 @@ impl Account {
         requires exists { hart < length self.old.harts.items }
         requires room { (open_at self.old hart).free < 2 ^ 63 }
         ensures stands { (s : Steps) → AccountInv self.old s → AccountInv self.new (if mark then with_begun hart s else s) }
+        ensures harts { length self.new.harts.items ≡ length self.old.harts.items }
         ensures stores { self.new.stores ≡ self.old.stores }
         ensures capacity { vec_capacity self.new.kept ≡ vec_capacity self.old.kept }
     {
@@ -120,6 +123,7 @@ impl Account {
         requires exists { hart < length self.old.harts.items }
         requires room { (open_at self.old hart).free + count < 2 ^ 64 }
         ensures stands { (s : Steps) → AccountInv self.old s → AccountInv self.new (with_more_begun hart count s) }
+        ensures harts { length self.new.harts.items ≡ length self.old.harts.items }
         ensures stores { self.new.stores ≡ self.old.stores }
         ensures capacity { vec_capacity self.new.kept ≡ vec_capacity self.old.kept }
     {
@@ -130,25 +134,29 @@ impl Account {
     fn bind(&mut self, hart: u32, position: u64)
         requires exists { hart < length self.old.harts.items }
         requires room { vec_len self.old.stores < vec_capacity self.old.stores }
-        ensures stands { (s : Steps) → AccountInv self.old s → AccountInv self.new (with_bound hart position s) }
+        ensures stands { (s : Steps) → AccountInv self.old s → AccountInv self.new (with_stored hart position s) }
+        ensures harts { length self.new.harts.items ≡ length self.old.harts.items }
         ensures stores { vec_len self.new.stores ≤ vec_len self.old.stores + 1 }
         ensures reserved { vec_capacity self.new.stores ≡ vec_capacity self.old.stores }
         ensures capacity { vec_capacity self.new.kept ≡ vec_capacity self.old.kept }
     {
         let steps = self.harts[hart as usize].free;
-        self.stores.push_reserved(PointStore {
-            hart,
-            position,
-            steps,
-        });
-        self.harts[hart as usize].free = 0;
+        if steps > 0 {
+            self.stores.push_reserved(PointStore {
+                hart,
+                position,
+                steps,
+            });
+            self.harts[hart as usize].free = 0;
+        }
     }
 
     /// If the point was stored, at this position, the steps begun before are bound to it.
     pub fn bind_if(&mut self, point: bool, hart: u32, position: u64)
         requires exists { hart < length self.old.harts.items }
         requires room { vec_len self.old.stores < vec_capacity self.old.stores }
-        ensures stands { (s : Steps) → AccountInv self.old s → AccountInv self.new (if point then with_bound hart position s else s) }
+        ensures stands { (s : Steps) → AccountInv self.old s → AccountInv self.new (if point then with_stored hart position s else s) }
+        ensures harts { length self.new.harts.items ≡ length self.old.harts.items }
         ensures stores { vec_len self.new.stores ≤ vec_len self.old.stores + 1 }
         ensures reserved { vec_capacity self.new.stores ≡ vec_capacity self.old.stores }
         ensures capacity { vec_capacity self.new.kept ≡ vec_capacity self.old.kept }
@@ -167,6 +175,7 @@ impl Account {
         requires room { vec_len self.old.kept + total (bound_at self.old hart) ≤ vec_capacity self.old.kept }
         ensures stands { (log : Log) (words : List Word) (s : Steps) → durable ≡ (word_at words (point_word log hart)).durable → AccountInv self.old s
             → AccountInv self.new (with_kept log words hart s) }
+        ensures harts { length self.new.harts.items ≡ length self.old.harts.items }
         ensures stores { self.new.stores ≡ self.old.stores }
         ensures capacity { vec_capacity self.new.kept ≡ vec_capacity self.old.kept }
     {
@@ -179,6 +188,7 @@ impl Account {
     /// A crash, or the end of a life: what isn't kept is lost.
     pub fn lose(&mut self)
         ensures stands { (s : Steps) → AccountInv self.old s → AccountInv self.new (without_open s) }
+        ensures harts { length self.new.harts.items ≡ length self.old.harts.items }
         ensures kept { self.new.kept ≡ self.old.kept }
         ensures stores { vec_len self.new.stores ≡ 0 }
         ensures reserved { vec_capacity self.new.stores ≡ vec_capacity self.old.stores }

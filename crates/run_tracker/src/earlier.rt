@@ -72,7 +72,8 @@ pub(crate) fn account_after(
     cap: u64,
 ) -> Result<Account, OutOfMemory>
     requires { kept_count earlier.now schedule.now + cap < 2 ^ 63 }
-    ensures stands { IfOk result (λ account. AccountInv account (first_steps harts (lives_in earlier.now schedule.now))) }
+    ensures stands { IfOk result (λ account. AccountInv account (first_steps (lives_in earlier.now schedule.now))) }
+    ensures harts { IfOk result (λ account. length account.harts.items ≡ harts) }
     ensures kept { IfOk result (λ account. vec_capacity account.kept ≡ kept_count earlier.now schedule.now + cap) }
     ensures reserved { IfOk result (λ account. vec_capacity account.stores ≡ cap) }
     ensures stores { IfOk result (λ account. vec_len account.stores ≡ 0) }

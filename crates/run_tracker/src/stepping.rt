@@ -8,9 +8,9 @@ ghost use Rattle.log_schemes.specs.Layout.{line_count};
 ghost use Rattle.ido_base.specs.Words.{word_at, last_position};
 ghost use Rattle.rv64_isa.specs.declared.object.Slot.{Slot};
 ghost use Rattle.machine_model.specs.Machine.{Hart, World, IsValidAt, can_start, happens};
-ghost use Rattle.machine_model.specs.Schedule.{Steps, hart_steps, is_running, with_step, steps_after, with_all_kept, with_kept};
+ghost use Rattle.machine_model.specs.Schedule.{Steps, is_running, with_step, steps_after, with_all_kept, with_kept};
 ghost use Rattle.ido_machine.specs.Machines.{RepresentsMachine, IsAfter, program_in, log_by, events_of};
-ghost use Rattle.run_tracker.specs.links.AccountRepresentation.{AccountInv, AllFrom, AreOpen, point_word};
+ghost use Rattle.run_tracker.specs.links.AccountRepresentation.{AccountInv, AreOpen, IsNoneDurable, point_word};
 ghost use Rattle.run_tracker.specs.links.SectionRepresentation.{AreAbove, AreSeen, section_at};
 ghost use Rattle.ido_machine.specs.links.SignTables.{AreTables, sign_at};
 ghost use Rattle.run_tracker.specs.links.LifeParts.{IsAmong, IsSeen, IsNextEntry, seen_step, HasStepped, WasTracked, IsTrackerReady, HasSteps, HasCounts};
@@ -81,7 +81,7 @@ fn keep_seen(machine: &Machine, account: &mut Account, sections: &Sections, hart
     requires harts { length account.old.harts.items ≡ length (program_in machine.now) }
     requires at { HasSteps machine.now account.old }
     ensures stands { (w : World) (s : Steps) → RepresentsMachine machine.now w → AccountInv account.old s
-        → AllFrom ((section_at sections.now hart).position + 1) (hart_steps s hart).bound
+        → IsNoneDurable hart (section_at sections.now hart).position s.pending
         → AccountInv account.new (with_kept w.log w.words hart s) }
     ensures harts { length account.new.harts.items ≡ length account.old.harts.items }
     ensures at { HasSteps machine.now account.new }
@@ -102,6 +102,7 @@ fn keep_all(machine: &Machine, account: &mut Account, sections: &Sections)
     ensures stands { (w : World) (s : Steps) → RepresentsMachine machine.now w → AccountInv account.old s
         → AreAbove sections.now (length (program_in machine.now)) s
         → AccountInv account.new (with_all_kept w.log w.words (length account.old.harts.items) s) }
+    ensures harts { length account.new.harts.items ≡ length account.old.harts.items }
     ensures stores { account.new.stores ≡ account.old.stores }
     ensures capacity { vec_capacity account.new.kept ≡ vec_capacity account.old.kept }
 {
@@ -131,6 +132,7 @@ fn complete(
         → AccountInv account.new (with_step marks program w hart s) }
     ensures counts { (program : List (List Slot)) (marks : List (List ℕ)) (w : World)
         → HasStepped program marks machine.now (seen_step hart observation Moved) w → HaveCounted counts.old counts.new program w (Step hart) }
+    ensures harts { length account.new.harts.items ≡ length account.old.harts.items }
     ensures stores { vec_len account.new.stores ≤ vec_len account.old.stores + 1 }
     ensures reserved { vec_capacity account.new.stores ≡ vec_capacity account.old.stores }
     ensures capacity { vec_capacity account.new.kept ≡ vec_capacity account.old.kept }
@@ -163,11 +165,13 @@ fn note(
     requires counts { HasCounts counts.old (length (program_in machine.now)) }
     requires room { vec_len account.old.stores < vec_capacity account.old.stores }
     ensures steps { (program : List (List Slot)) (marks : List (List ℕ)) (w : World) (s : Steps)
-        → HasStepped program marks machine.now (seen_step hart observation reply) w → AccountInv account.old s → AreOpen w.log w.words s
+        → HasStepped program marks machine.now (seen_step hart observation reply) w → AccountInv account.old s
+        → AreOpen (length (program_in machine.now)) w.log w.words s
         → AreSeen sections.now (length (program_in machine.now)) w
         → AccountInv account.new (steps_after marks program w (Step hart) s) }
     ensures counts { (program : List (List Slot)) (marks : List (List ℕ)) (w : World)
         → HasStepped program marks machine.now (seen_step hart observation reply) w → HaveCounted counts.old counts.new program w (Step hart) }
+    ensures harts { length account.new.harts.items ≡ length account.old.harts.items }
     ensures stores { vec_len account.new.stores ≤ vec_len account.old.stores + 1 }
     ensures reserved { vec_capacity account.new.stores ≡ vec_capacity account.old.stores }
     ensures capacity { vec_capacity account.new.kept ≡ vec_capacity account.old.kept }
@@ -212,13 +216,14 @@ fn step(
     requires seen { length sections.now.harts.items ≡ length (program_in machine.old) }
     ensures world { (w : World) → RepresentsMachine machine.old w → IsAfter machine.new result (happens (program_in machine.old) w (Step hart)) }
     ensures steps { (marks : List (List ℕ)) (w : World) (s : Steps) → AreTables tables.now (program_in machine.old) marks
-        → RepresentsMachine machine.old w → AccountInv account.old s → AreOpen w.log w.words s
+        → RepresentsMachine machine.old w → AccountInv account.old s → AreOpen (length (program_in machine.old)) w.log w.words s
         → AreSeen sections.now (length (program_in machine.old)) w
         → AccountInv account.new (steps_after marks (program_in machine.old) w (Step hart) s) }
     ensures counts { (w : World) → RepresentsMachine machine.old w → HaveCounted counts.old counts.new (program_in machine.old) w (Step hart) }
     ensures program { program_in machine.new ≡ program_in machine.old }
     ensures log { log_by machine.new ≡ log_by machine.old }
     ensures events { events_of machine.new ≡ events_of machine.old + 1 }
+    ensures harts { length account.new.harts.items ≡ length account.old.harts.items }
     ensures stores { vec_len account.new.stores ≤ vec_len account.old.stores + 1 }
     ensures reserved { vec_capacity account.new.stores ≡ vec_capacity account.old.stores }
     ensures capacity { vec_capacity account.new.kept ≡ vec_capacity account.old.kept }
@@ -246,11 +251,12 @@ fn evict(
     requires seen { length sections.now.harts.items ≡ length (program_in machine.old) }
     ensures world { (w : World) → RepresentsMachine machine.old w → IsAfter machine.new result (happens (program_in machine.old) w (Evict line mask)) }
     ensures steps { (marks : List (List ℕ)) (w : World) (s : Steps) → RepresentsMachine machine.old w → AccountInv account.old s
-        → AreOpen w.log w.words s → AreSeen sections.now (length (program_in machine.old)) w
+        → AreOpen (length (program_in machine.old)) w.log w.words s → AreSeen sections.now (length (program_in machine.old)) w
         → AccountInv account.new (steps_after marks (program_in machine.old) w (Evict line mask) s) }
     ensures program { program_in machine.new ≡ program_in machine.old }
     ensures log { log_by machine.new ≡ log_by machine.old }
     ensures events { events_of machine.new ≡ events_of machine.old + 1 }
+    ensures harts { length account.new.harts.items ≡ length account.old.harts.items }
     ensures stores { account.new.stores ≡ account.old.stores }
     ensures capacity { vec_capacity account.new.kept ≡ vec_capacity account.old.kept }
 {
@@ -268,6 +274,7 @@ fn crash(machine: &mut Machine, account: &mut Account) -> Reply
     ensures program { program_in machine.new ≡ program_in machine.old }
     ensures log { log_by machine.new ≡ log_by machine.old }
     ensures events { events_of machine.new ≡ events_of machine.old + 1 }
+    ensures harts { length account.new.harts.items ≡ length account.old.harts.items }
     ensures stores { vec_len account.new.stores ≡ 0 }
     ensures reserved { vec_capacity account.new.stores ≡ vec_capacity account.old.stores }
     ensures capacity { vec_capacity account.new.kept ≡ vec_capacity account.old.kept }
@@ -287,6 +294,7 @@ fn start(machine: &mut Machine, account: &mut Account) -> Reply
     ensures program { program_in machine.new ≡ program_in machine.old }
     ensures log { log_by machine.new ≡ log_by machine.old }
     ensures events { events_of machine.new ≡ events_of machine.old + 1 }
+    ensures harts { length account.new.harts.items ≡ length account.old.harts.items }
     ensures stores { vec_len account.new.stores ≡ 0 }
     ensures reserved { vec_capacity account.new.stores ≡ vec_capacity account.old.stores }
     ensures capacity { vec_capacity account.new.kept ≡ vec_capacity account.old.kept }
@@ -316,13 +324,14 @@ pub(crate) fn make(
     ensures world { (w : World) → RepresentsMachine machine.old w → IsValidAt w event
         → IsAfter machine.new result (happens (program_in machine.old) w event) }
     ensures steps { (marks : List (List ℕ)) (w : World) (s : Steps) → AreTables tables.now (program_in machine.old) marks
-        → RepresentsMachine machine.old w → IsValidAt w event → AccountInv account.old s → AreOpen w.log w.words s
+        → RepresentsMachine machine.old w → IsValidAt w event → AccountInv account.old s → AreOpen (length (program_in machine.old)) w.log w.words s
         → AreSeen sections.now (length (program_in machine.old)) w
         → AccountInv account.new (steps_after marks (program_in machine.old) w event s) }
     ensures counts { (w : World) → RepresentsMachine machine.old w → HaveCounted counts.old counts.new (program_in machine.old) w event }
     ensures program { program_in machine.new ≡ program_in machine.old }
     ensures log { log_by machine.new ≡ log_by machine.old }
     ensures events { events_of machine.new ≡ events_of machine.old + 1 }
+    ensures harts { length account.new.harts.items ≡ length account.old.harts.items }
     ensures stores { vec_len account.new.stores ≤ vec_len account.old.stores + 1 }
     ensures reserved { vec_capacity account.new.stores ≡ vec_capacity account.old.stores }
     ensures capacity { vec_capacity account.new.kept ≡ vec_capacity account.old.kept }

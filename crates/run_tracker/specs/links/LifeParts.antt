@@ -9,7 +9,7 @@ use Rattle.machine_events.specs.declared.event.Reply.TheVariants.{Moved, Drained
 use Rattle.ido_base.specs.Words.{word_at, last_position}
 use Rattle.rv64_isa.specs.declared.object.Slot.{Slot}
 use Rattle.machine_model.specs.Machine.{Hart, World, IsEviction, after_event, reply_to}
-use Rattle.machine_model.specs.Schedule.{Steps, hart_steps, is_running, stores_point, finishes_fence}
+use Rattle.machine_model.specs.Schedule.{Steps, is_running, stores_point, finishes_fence}
 use Rattle.machine_model.specs.Frames.{IsWellFormedWorld}
 use Rattle.ido_machine.specs.declared.machine.Machine.{Machine}
 use Rattle.ido_machine.specs.Machines.{RepresentsMachine, program_in}
@@ -19,7 +19,7 @@ use Rattle.ido_machine.specs.declared.signs.Entry.{Entry}
 use Rattle.ido_machine.specs.declared.signs.SignTable.{SignTable}
 use Rattle.run_tracker.specs.declared.stepping.Observation.{Observation}
 use Rattle.ido_machine.specs.links.SignTables.{AreTables, entry_at, sign_at}
-use Rattle.run_tracker.specs.links.AccountRepresentation.{AccountInv, AreOrdered, weight, IsAscending, point_word}
+use Rattle.run_tracker.specs.links.AccountRepresentation.{AccountInv, AreInOrder, AreOrdered, own_steps, point_word, weight}
 
 -- the event is a step of one of so many harts, an eviction of their words, a crash or a start
 abbrev pub IsAmong : Log → (harts : ℕ) → Event → Type 0
@@ -83,6 +83,7 @@ seen_step hart observation reply = record { hart = hart; observation = observati
 
 -- the step, of which that was seen at a world, has led to that of the machine, and was replied to so
 pub record HasStepped (program : List (List Slot)) (marks : List (List ℕ)) (machine : Machine) (step : SeenStep) (w : World) : Type 0 where
+  pub many : length program ≡ length (program_in machine)
   pub tables : List SignTable
   pub tables_are : AreTables tables program marks
   pub seen : IsSeen w step.hart tables step.observation
@@ -96,7 +97,7 @@ pub record HasSteps (machine : Machine) (account : Account) : Type 0 where
   pub at : RepresentsMachine machine world
   pub steps : Steps
   pub stands : AccountInv account steps
-  pub ascending : (h : ℕ) → IsAscending (hart_steps steps h).bound
+  pub in_order : (h : ℕ) → AreInOrder (own_steps h steps.pending)
   pub room : weight steps ≤ vec_capacity account.kept
   pub few : weight steps < 2 ^ 63
 

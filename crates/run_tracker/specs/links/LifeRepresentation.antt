@@ -62,7 +62,7 @@ pub record LifeInv (life : Inside) : Type 0 where
   pub marked : length life.marks.threads.items ≡ length (program_in life.machine)
   pub harts : length life.account.harts.items ≡ length (program_in life.machine)
   pub ordered : AreOrdered (world_of (course_of life)).log (world_of (course_of life)).words (steps_in (course_of life))
-  pub are_open : AreOpen (world_of (course_of life)).log (world_of (course_of life)).words (steps_in (course_of life))
+  pub are_open : AreOpen (length (program_in life.machine)) (world_of (course_of life)).log (world_of (course_of life)).words (steps_in (course_of life))
   pub light : weight (steps_in (course_of life)) ≤ kept_first life + length life.journal.events
   pub points : AreCounts life.counts.points.items (length (program_in life.machine)) (point_stores living (opening_of (course_of life)) life.journal.events)
   pub fences : AreCounts life.counts.fences.items (length (program_in life.machine)) (finished_fences living (opening_of (course_of life)) life.journal.events)

@@ -2,8 +2,8 @@
 use Rattle.std.specs.Prelude.{◌≡◌, ℕ, ◌+◌, ◌<◌, length, slice_index_or, not, ◌&&◌, ◌==◌, if◌then◌else◌}
 use Rattle.ido_base.specs.Words.{word_at}
 use Rattle.machine_model.specs.Machine.{World, durable_point}
-use Rattle.machine_model.specs.Schedule.{Steps, hart_steps}
-use Rattle.run_tracker.specs.links.AccountRepresentation.{AllFrom, point_word}
+use Rattle.machine_model.specs.Schedule.{Steps}
+use Rattle.run_tracker.specs.links.AccountRepresentation.{IsNoneDurable, point_word}
 use Rattle.run_tracker.specs.declared.sections.HartSections.{HartSections}
 use Rattle.run_tracker.specs.declared.sections.Sections.{Sections}
 
@@ -29,9 +29,9 @@ looked_at position point hart = if hart.position == position then hart else seen
 abbrev pub AreSeen : Sections → (harts : ℕ) → World → Type 0
 AreSeen sections harts w = (h : ℕ) → h < harts → (section_at sections h).position ≡ (word_at w.words (point_word w.log h)).durable
 
--- of each of so many harts no steps are bound up to there
+-- of each of so many harts no pending steps are bound up to there
 abbrev pub AreAbove : Sections → (harts : ℕ) → Steps → Type 0
-AreAbove sections harts s = (h : ℕ) → h < harts → AllFrom ((section_at sections h).position + 1) (hart_steps s h).bound
+AreAbove sections harts s = (h : ℕ) → h < harts → IsNoneDurable h (section_at sections h).position s.pending
 
 -- of each of so many harts its durable point and where that stands, and how many sections of its thread have ended
 pub record AreSections (sections : Sections) (harts : ℕ) (w : World) (ended : ℕ → ℕ) : Type 0 where

@@ -1,6 +1,5 @@
 use Rattle.std.proofs.Common.{◌≡◌, ◌+◌, drop}
-use Rattle.machine_model.specs.Schedule.{durable_steps}
-use Rattle.run_tracker.specs.links.AccountRepresentation.{IsAscending, bound_in}
+use Rattle.run_tracker.specs.links.AccountRepresentation.{IsAscending, bound_in, durable_steps}
 use Rattle.run_tracker.proofs.BoundSteps.{later}
 use Rattle.run_tracker.proofs.account.kept_of.Given as goal
 

@@ -1,5 +1,4 @@
-use Rattle.std.proofs.Common.{◌≡◌, ℕ, ◌==◌, not, true, refl, sym, subst, arith}
-use Rattle.ido_base.specs.Words.{word_at, last_position}
+use Rattle.std.proofs.Common.{◌≡◌, ◌==◌, not, true, refl, sym, subst, arith}
 use Rattle.machine_events.specs.declared.event.Reply.TheVariants.{Moved}
 use Rattle.machine_events.specs.declared.event.Event.TheVariants.{Step}
 use Rattle.machine_model.specs.Machine.{after_event}
@@ -8,7 +7,14 @@ use Rattle.run_tracker.specs.links.AccountRepresentation.{AccountInv}
 use Rattle.run_tracker.proofs.StepsByObservation.{fence_done, mark_is, plain_counts, plain_steps, point_is, position_is, steps_are}
 use Rattle.run_tracker.proofs.EventCounts.{completes-other, counted-one}
 use Rattle.run_tracker.proofs.Events.{begun_if}
+use Rattle.run_tracker.proofs.MoreBegun.{free_few}
 use Rattle.run_tracker.proofs.stepping.complete.Goals as goal
+
+pub begin_if-requires-clause-room : goal.begin_if-requires-clause-room
+begin_if-requires-clause-room c =
+    let has = c.requires.after.has in
+    let few = free_few c.args.account.now has.steps c.args.hart has.stands (omega (arith, c.requires.harts, c.requires.exists)) in
+    omega (arith, few, has.few)
 
 pub returns-then-observation-clause-steps : goal.returns-then-observation-clause-steps
 returns-then-observation-clause-steps c = λ program marks w s stepped a.

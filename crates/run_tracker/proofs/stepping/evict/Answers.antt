@@ -5,7 +5,7 @@ use Rattle.machine_model.specs.Machine.{World, after_event}
 use Rattle.machine_model.specs.Schedule.{with_all_kept}
 use Rattle.ido_machine.specs.Machines.{program_in}
 use Rattle.run_tracker.specs.links.AccountRepresentation.{AccountInv}
-use Rattle.run_tracker.specs.links.SectionRepresentation.{AreSeen}
+use Rattle.run_tracker.specs.links.SectionRepresentation.{AreAbove}
 use Rattle.run_tracker.proofs.DurablePoints.{above_seen}
 use Rattle.run_tracker.proofs.Events.{eviction_is}
 use Rattle.run_tracker.proofs.stepping.evict.Goals as goal
@@ -18,7 +18,7 @@ keep_all-requires-clause-at c =
       at = (c.evict-reply.ensures.world has.world has.at).stands;
       steps = has.steps;
       stands = has.stands;
-      ascending = has.ascending;
+      in_order = has.in_order;
       room = has.room;
       few = has.few;
     }
@@ -28,8 +28,9 @@ returns-clause-steps c = λ marks w s m a is_open seen.
     let program = program_in c.args.machine.now in
     let next : World = after_event program w (Evict c.args.line c.args.mask) in
     let after = c.evict-reply.ensures.world w m in
-    subst (AccountInv c.keep_all.new.account) (eviction_is marks program w c.args.line c.args.mask s (length c.args.account.now.harts.items) (sym a.count))
+    subst (AccountInv c.keep_all.new.account) (eviction_is marks program w c.args.line c.args.mask s (length c.args.account.now.harts.items) c.requires.harts)
     (subst (λ (l : Log). AccountInv c.keep_all.new.account (with_all_kept l next.words (length c.args.account.now.harts.items) s))
     (after.stands.log ∙ (c.evict-reply.ensures.log ∙ sym m.log))
-    (c.keep_all.ensures.stands next s after.stands a (above_seen c.args.sections.now _ w s
-    (subst (λ (n : ℕ). AreSeen c.args.sections.now n w) (ap length (sym c.evict-reply.ensures.program)) seen) is_open)))
+    (c.keep_all.ensures.stands next s after.stands a
+    (subst (λ (n : ℕ). AreAbove c.args.sections.now n s) (ap length (sym c.evict-reply.ensures.program))
+    (above_seen c.args.sections.now _ w s seen is_open))))

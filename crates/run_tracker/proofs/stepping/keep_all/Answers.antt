@@ -1,9 +1,9 @@
-use Rattle.std.proofs.Common.{ℕ, ◌+◌, ◌<◌, length, sym, subst, ◌∙◌, arith, add-one}
-use Rattle.machine_model.specs.Schedule.{HartSteps, with_all_kept}
+use Rattle.std.proofs.Common.{ℕ, ◌<◌, length, sym, subst, ◌∙◌, arith, add-one}
+use Rattle.machine_model.specs.Schedule.{with_all_kept}
 use Rattle.ido_machine.specs.Machines.{program_in}
-use Rattle.run_tracker.specs.links.AccountRepresentation.{AccountInv, AllFrom}
+use Rattle.run_tracker.specs.links.AccountRepresentation.{AccountInv}
 use Rattle.run_tracker.specs.links.SectionRepresentation.{section_at}
-use Rattle.run_tracker.proofs.StepsStayOpen.{later_stays}
+use Rattle.run_tracker.proofs.StepsStayOpen.{still_none}
 use Rattle.run_tracker.proofs.stepping.keep_all.Goals as goal
 
 pub loop-hart-preserved : goal.loop-hart-preserved
@@ -21,6 +21,5 @@ loop-hart-preserved c =
       stands =
           λ w s m a above. subst (λ (k : ℕ). AccountInv c.keep_seen.new.account (with_all_kept w.log w.words k s)) (sym (add-one h))
           (one.stands w (with_all_kept w.log w.words h s) m (inv.stands w s m a above)
-          (subst (λ (x : HartSteps). AllFrom ((section_at sections h).position + 1) x.bound) (sym (later_stays w.log w.words h s h (omega arith)))
-          (above h exists)));
+          (still_none w.log w.words h s h (section_at sections h).position (above h exists)));
     }

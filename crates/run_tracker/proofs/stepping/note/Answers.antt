@@ -1,11 +1,11 @@
-use Rattle.std.proofs.Common.{◌≡◌, false, refl, ap, sym, subst, ◌∙◌, length}
+use Rattle.std.proofs.Common.{◌≡◌, ℕ, false, refl, ap, sym, subst, ◌∙◌, length}
 use Rattle.log_schemes.specs.declared.log.Log.{Log}
 use Rattle.machine_events.specs.declared.event.Event.TheVariants.{Step}
 use Rattle.machine_events.specs.declared.event.Reply.{Reply}
 use Rattle.machine_events.specs.declared.event.Reply.TheVariants.{Moved, Drained, Waits, Barrier, Still, Stuck, Device}
 use Rattle.machine_model.specs.Machine.{after_event}
 use Rattle.machine_model.specs.Schedule.{has_moved, with_all_kept}
-use Rattle.run_tracker.specs.links.AccountRepresentation.{AccountInv}
+use Rattle.run_tracker.specs.links.AccountRepresentation.{AccountInv, AreOpen}
 use Rattle.run_tracker.specs.links.LifeParts.{is_drained, seen_step, HasStepped}
 use Rattle.run_tracker.proofs.DurablePoints.{above_seen}
 use Rattle.run_tracker.proofs.StepsByObservation.{counts_none, held_up, idle, kept_after, kept_none, steps_none}
@@ -32,7 +32,8 @@ undrained Device ne = refl
 pub returns-then-observation-clause-steps : goal.returns-then-observation-clause-steps
 returns-then-observation-clause-steps c = λ program marks w s stepped a is_open seen.
     let kept = kept_none program marks c.args.machine.now c.args.hart c.args.observation c.args.reply w stepped
-    (ap is_drained c.in-Moved.is) s is_open in
+    (ap is_drained c.in-Moved.is) s
+    (subst (λ (n : ℕ). AreOpen n w.log w.words s) (sym stepped.many) is_open) in
     let moved = subst (λ (r : Reply). HasStepped program marks c.args.machine.now (seen_step c.args.hart c.args.observation r) w)
     c.in-Moved.is
     stepped in
@@ -47,7 +48,8 @@ pub returns-else-observation-clause-steps : goal.returns-else-observation-clause
 returns-else-observation-clause-steps c = λ program marks w s stepped a is_open seen.
     let none = idle program marks c.args.machine.now c.args.hart c.args.observation c.args.reply w stepped c.if-observation.false in
     let kept = kept_none program marks c.args.machine.now c.args.hart c.args.observation c.args.reply w stepped
-    (ap is_drained c.in-Moved.is) s is_open in
+    (ap is_drained c.in-Moved.is) s
+    (subst (λ (n : ℕ). AreOpen n w.log w.words s) (sym stepped.many) is_open) in
     let same = steps_none program marks c.args.machine.now c.args.hart c.args.observation c.args.reply w stepped none s in
     subst (AccountInv c.args.account.now) (sym (kept ∙ same)) a
 
@@ -60,7 +62,7 @@ pub returns-in-Drained-clause-steps : goal.returns-in-Drained-clause-steps
 returns-in-Drained-clause-steps c = λ program marks w s stepped a is_open seen.
     let none = held_up program marks c.args.machine.now c.args.hart c.args.observation c.args.reply w stepped
     (ap has_moved c.in-Drained.is) in
-    let after = kept_after program marks c.args.machine.now c.args.hart c.args.observation c.args.reply w stepped none s _ (sym a.count) in
+    let after = kept_after program marks c.args.machine.now c.args.hart c.args.observation c.args.reply w stepped none s _ (c.requires.harts ∙ sym stepped.many) in
     let next = after_event program w (Step c.args.hart) in
     subst (AccountInv c.keep_all.new.account) after
     (subst (λ (l : Log). AccountInv c.keep_all.new.account (with_all_kept l next.words (length c.args.account.now.harts.items) s)) stepped.log
@@ -77,7 +79,8 @@ returns-in_default-clause-steps c = λ program marks w s stepped a is_open seen.
     let none = held_up program marks c.args.machine.now c.args.hart c.args.observation c.args.reply w stepped
     (unmoved c.args.reply c.in_default.not-Moved) in
     let kept = kept_none program marks c.args.machine.now c.args.hart c.args.observation c.args.reply w stepped
-    (undrained c.args.reply c.in_default.not-Drained) s is_open in
+    (undrained c.args.reply c.in_default.not-Drained) s
+    (subst (λ (n : ℕ). AreOpen n w.log w.words s) (sym stepped.many) is_open) in
     let same = steps_none program marks c.args.machine.now c.args.hart c.args.observation c.args.reply w stepped none s in
     subst (AccountInv c.args.account.now) (sym (kept ∙ same)) a
 

@@ -8,6 +8,7 @@ use Rattle.ido_machine.specs.declared.signs.Entry.{Entry}
 use Rattle.ido_machine.specs.declared.signs.SignTable.{SignTable}
 use Rattle.ido_machine.specs.links.SignTables.{AreTables, sign_of, slot_at}
 use Rattle.ido_machine.proofs.Public.{entry_stands, get_some}
+use Rattle.run_tracker.specs.links.AccountRepresentation.{AreOpen}
 use Rattle.run_tracker.specs.links.LifeParts.{IsNextEntry, seen_step, HasStepped}
 use Rattle.run_tracker.specs.links.SectionRepresentation.{AreSeen}
 use Rattle.run_tracker.proofs.stepping.step.Goals as goal
@@ -41,6 +42,7 @@ note-requires-clause-after c =
           subst (λ (p : List (List Slot)).
           HasStepped p ready.marks c.execute-reply.new.self (seen_step c.args.hart c.look-observation.result c.execute-reply.result) ready.world)
           (sym c.execute-reply.ensures.program) (record {
+            many = ap length (sym c.execute-reply.ensures.program);
             tables = c.args.tables.now;
             tables_are = ready.tables_are;
             seen = c.look-observation.ensures c.args.tables.now table.0 ready.world ready.at.stands table.1
@@ -54,7 +56,7 @@ note-requires-clause-after c =
         at = after.stands;
         steps = ready.steps;
         stands = ready.at.steps;
-        ascending = ready.at.ordered.ascending;
+        in_order = ready.at.ordered.in_order;
         room = omega (arith, ready.at.room);
         few = omega (arith, ready.at.few);
       };
@@ -67,6 +69,7 @@ returns-clause-steps c = λ marks w s tables stands a is_open seen.
     let table = get_some c.args.tables.now c.args.hart (omega (arith, tables.count, c.requires.exists)) in
     c.note.ensures.steps (program_in c.args.machine.now) marks w s
     (record {
+      many = ap length (sym c.execute-reply.ensures.program);
       tables = c.args.tables.now;
       tables_are = tables;
       seen = c.look-observation.ensures c.args.tables.now table.0 w stands table.1
@@ -74,7 +77,7 @@ returns-clause-steps c = λ marks w s tables stands a is_open seen.
       replied = after.replied;
       log = after.stands.log ∙ (c.execute-reply.ensures.log ∙ sym stands.log);
       stands = after.stands;
-    }) a is_open
+    }) a (subst (λ (n : ℕ). AreOpen n w.log w.words s) (ap length (sym c.execute-reply.ensures.program)) is_open)
     (subst (λ (n : ℕ). AreSeen c.args.sections.now n w) (ap length (sym c.execute-reply.ensures.program)) seen)
 
 pub returns-clause-counts : goal.returns-clause-counts
@@ -84,6 +87,7 @@ returns-clause-counts c = λ w stands.
     let table = get_some c.args.tables.now c.args.hart (omega (arith, c.requires.at.tables_are.count, c.requires.exists)) in
     c.note.ensures.counts (program_in c.args.machine.now) c.requires.at.marks w
     (record {
+      many = ap length (sym c.execute-reply.ensures.program);
       tables = c.args.tables.now;
       tables_are = c.requires.at.tables_are;
       seen = c.look-observation.ensures c.args.tables.now table.0 w stands table.1

@@ -1,8 +1,7 @@
 use Rattle.std.proofs.Common.{◌≡◌, ◌≤◌, List, length, drop, sym, ap, subst, ◌∙◌, arith, refl}
-use Rattle.machine_model.specs.Schedule.{durable_steps}
 use Rattle.run_tracker.specs.declared.account.OpenSteps.{OpenSteps}
 use Rattle.run_tracker.specs.declared.account.PointStore.{PointStore}
-use Rattle.run_tracker.specs.links.AccountRepresentation.{bound_in, open_at, nothing_open, total}
+use Rattle.run_tracker.specs.links.AccountRepresentation.{bound_in, durable_steps, nothing_open, open_at, total}
 use Rattle.run_tracker.proofs.BoundSteps.{later}
 use Rattle.run_tracker.proofs.StoreScans.{durable_few}
 use Rattle.run_tracker.proofs.AccountUpdates.{found, kept-stands}

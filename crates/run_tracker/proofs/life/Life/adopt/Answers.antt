@@ -85,6 +85,7 @@ invariant_of-self c =
         events = c.go_to.ensures.events ∙ ap (λ (n : ℕ). events_of life.machine + n) (sym many);
         journal = c.push_steps.ensures;
         room = omega (arith, many, made_is, room, stands.within);
+        harts = c.begin_more.ensures.harts;
         kept_room = c.begin_more.ensures.capacity;
         stores_room = ap vec_capacity c.begin_more.ensures.stores;
         stores = omega (arith, ap vec_len c.begin_more.ensures.stores);

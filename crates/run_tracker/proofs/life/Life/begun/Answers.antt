@@ -9,7 +9,7 @@ use Rattle.machine_model.specs.Frames.{IsWellFormedWorld}
 use Rattle.rv64_isa.specs.Programs.{slot_of}
 use Rattle.machine_model.specs.Objects.{program_of}
 use Rattle.machine_model.specs.Machine.{World}
-use Rattle.machine_model.specs.Schedule.{LifeSchedules, first_steps, no_steps}
+use Rattle.machine_model.specs.Schedule.{LifeSchedules, first_steps}
 use Rattle.machine_events.specs.Cores.{point_stores, finished_fences}
 use Rattle.ido_machine.specs.Machines.{RepresentsMachine, program_in}
 use Rattle.run_tracker.specs.declared.life.Life.TheInside.{Inside}
@@ -21,9 +21,6 @@ use Rattle.run_tracker.specs.links.SectionRepresentation.{AreSections}
 use Rattle.ido_machine.specs.links.SignTables.{AreTables}
 use Rattle.run_tracker.specs.ObjectLives.{Course, sections_since, life_at, world_of, steps_in, living, opening_of}
 use Rattle.run_tracker.specs.links.LifeRepresentation.{course_of, kept_first, opening_by, AreCounts}
-use Rattle.run_tracker.proofs.Events.{weightless}
-use Rattle.run_tracker.proofs.StepsStayOpen.{open-none}
-use Rattle.run_tracker.proofs.BoundStepOrder.{ordered-none}
 use Rattle.run_tracker.proofs.life.Life.begun.Goals as goal
 
 each_is : {X : Type 0} (count h : ℕ) (x : X) → get_or (replicate count x) h x ≡ x
@@ -76,8 +73,7 @@ invariant_of-result c =
     let program_is : program_in machine ≡ program_of object = c.requires.program in
     let count : c.harts-harts.result ≡ length (program_of object) = c.harts-harts.ensures ∙ ap length program_is in
     let none_yet : length journal.events ≡ 0 = ap (λ (j : Recorded). length j.events) c.in_ok-new.ensures in
-    let stands : AccountInv account (first_steps (length (program_of object)) kept) =
-    subst (λ (n : ℕ). AccountInv account (first_steps n kept)) count c.in_ok-account_after.ensures.stands in
+    let stands : AccountInv account (first_steps kept) = c.in_ok-account_after.ensures.stands in
     let same_before : length copy.items ≡ length before = ap length same_steps in
     let same_lives : length copies.items ≡ length earlier =
     sym (length-map copies.items schedule_in) ∙ ap length c.in_ok-copies_of.ensures ∙ length-map earlier schedule_in in
@@ -103,22 +99,19 @@ invariant_of-result c =
           (subst (AreTables c.in_ok-tables_of.field-0.items (program_of object)) (sym c.in_ok-copy_of.ensures.nodes) c.in_ok-tables_of.ensures);
       marked = marked;
       account = subst (λ (x : Course). AccountInv account (steps_in x)) is stands;
-      harts = sym stands.count ∙ length-replicate (length (program_of object)) no_steps ∙ ap length (sym program_is);
+      harts = c.in_ok-account_after.ensures.harts ∙ c.harts-harts.ensures;
       ordered =
           subst (λ (x : Course). AreOrdered (world_of x).log (world_of x).words (steps_in x)) is
-          (ordered-none (opening (program_of object)).log (opening (program_of object)).words
-          (first_steps (length (program_of object)) kept) (length (program_of object)) refl);
+          (record { in_order = λ h. tt; up_to = λ h. tt });
       are_open =
-          subst (λ (x : Course). AreOpen (world_of x).log (world_of x).words (steps_in x)) is
-          (open-none (opening (program_of object)).log (opening (program_of object)).words
-          (first_steps (length (program_of object)) kept) (length (program_of object)) refl);
+          subst (λ (x : Course). AreOpen (length x.runs.program) (world_of x).log (world_of x).words (steps_in x)) is
+          (λ h below. tt);
       light =
           subst (λ (x : Course). weight (steps_in x) ≤ kept_first life + length journal.events) is
           (omega (
             arith,
             same_before,
             same_together,
-            weightless (length (program_of object)),
             length-append (steps_together (map schedule_in earlier)) before,
           ));
       points = subst (λ (x : Course). AreCounts counts.points.items (length x.runs.program) (point_stores living (opening_of x) x.journal)) is (

@@ -67,6 +67,7 @@ invariant_of-self c =
         events = made.ensures.events;
         journal = c.push.ensures;
         room = omega (arith, room);
+        harts = made.ensures.harts;
         kept_room = made.ensures.capacity;
         stores_room = made.ensures.reserved;
         stores = made.ensures.stores;

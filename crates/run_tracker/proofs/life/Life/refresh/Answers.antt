@@ -1,4 +1,4 @@
-use Rattle.std.proofs.Common.{◌≡◌, ◌<◌, length, slice_get, Some, sym, ap, subst, ◌∙◌, arith}
+use Rattle.std.proofs.Common.{◌<◌, length, sym, ap, subst, ◌∙◌, arith}
 use Rattle.ido_machine.specs.Machines.{program_in}
 use Rattle.ido_machine.proofs.Public.{get_some}
 use Rattle.run_tracker.specs.ObjectLives.{Course, world_of}

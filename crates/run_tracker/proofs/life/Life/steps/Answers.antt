@@ -1,4 +1,4 @@
-use Rattle.std.proofs.Common.{◌≡◌, ℕ, ◌+◌, ◌-◌, ◌<◌, ◌≤◌, ap, ◌∙◌, arith}
+use Rattle.std.proofs.Common.{◌≡◌, ◌+◌, ◌-◌, ◌≤◌, ap, ◌∙◌, arith}
 use Rattle.run_tracker.specs.ObjectLives.{Course}
 use Rattle.run_tracker.specs.LocalRuns.{with_steps}
 use Rattle.run_tracker.proofs.RepeatedSteps.{more_steps}

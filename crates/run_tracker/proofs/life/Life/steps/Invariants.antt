@@ -1,4 +1,4 @@
-use Rattle.std.proofs.Common.{◌≡◌, ℕ, ◌-◌, ◌≤◌}
+use Rattle.std.proofs.Common.{◌≡◌, ◌-◌, ◌≤◌}
 use Rattle.run_tracker.specs.LocalRuns.{with_steps}
 use Rattle.run_tracker.proofs.life.Life.steps.Given as goal
 
