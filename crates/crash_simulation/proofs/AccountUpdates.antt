@@ -5,7 +5,8 @@ use Rattle.crash_simulation.proofs.Common.{filter, eq-eqb, eqb-true, true≢fals
 use Rattle.crash_simulation.proofs.Common.{AreEntries, byte_number, word_number, point_at, Word, Entry, last_position, Step, Evict, Reply, Moved}
 use Rattle.crash_simulation.proofs.Common.{Log, same_last, write_backs_raise, without_first, without, IsWellFormedWorld, Hart, World, happens, after_event}
 use Rattle.crash_simulation.proofs.Common.{reply_to, Steps, has_moved, is_running, completing, is_mark, passes_mark, stores_point, with_step}
-use Rattle.crash_simulation.proofs.Common.{PendingStep, harts_of, with_begun, then_stored, with_stored, is_up_to, is_durable, with_kept, Slot, Phase, Done, log_stays}
+use Rattle.crash_simulation.proofs.Common.{PendingStep, harts_of, with_begun, then_stored, with_stored}
+use Rattle.crash_simulation.proofs.Common.{is_up_to, is_durable, with_kept, Slot, Phase, Done, log_stays}
 use Rattle.crash_simulation.proofs.Common.{evictions_touch, MayMakeStore, IsWork, Queues, WritesBack, Makes, steps_work, equal_self, point_in}
 use Rattle.crash_simulation.proofs.Common.{IsElsewhere, some_words, word_beside, IsInPhase, AbstractRun, AreStoredAt, IsCountedOf, IsAccountedOf, AreCounted}
 use Rattle.crash_simulation.proofs.Common.{Beginning, IsReleasedOf, stored_at, last_stored, is_bound, is_leaving, SaysSame, sections_kept, System, ThreadGhost}
@@ -114,7 +115,8 @@ then_own : (h position : ℕ) (step : PendingStep) → (step.hart ≡ h → step
 then_own h position step was = by ((step.hart == h) && is_none step.stored) refl
   where
     by : (b : Bool) → ((step.hart == h) && is_none step.stored) ≡ b →
-        (if b then record step { stored = Some position } else step).hart ≡ h → (if b then record step { stored = Some position } else step).stored ≡ Some position
+        (if b then record step { stored = Some position } else step).hart ≡ h →
+        (if b then record step { stored = Some position } else step).stored ≡ Some position
     by true is own = refl
     by false is own =
         absurd (true≢false (sym (both_true (step.hart == h) (is_none step.stored) (eq-eqb step.hart h own) (ap is_none (was own))) ∙ is))

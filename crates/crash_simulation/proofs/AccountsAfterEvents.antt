@@ -11,12 +11,14 @@ use Rattle.crash_simulation.proofs.Common.{EventsStand, RunsSimulate, SectionsEn
 use Rattle.crash_simulation.proofs.Common.{IsReleasedOf, ended_in_machine, SectionsAreKept, SimulatesBut, Simulates, anybody, System, IsSystem, thread_count}
 use Rattle.crash_simulation.proofs.Common.{flat_of, ThreadGhost, lowered, now_of}
 use Rattle.crash_simulation.proofs.Common.{boundary_fences, AreFencesCounted}
-use Rattle.crash_simulation.proofs.Common.{is_fence, finishes_fence, is_point_store, stores_point, effect_at, same_or_other, unequal_of, and_left, and_right, Effect}
+use Rattle.crash_simulation.proofs.Common.{is_fence, finishes_fence, is_point_store, stores_point, same_or_other, last_store_after}
 use Rattle.std.specs.Prelude.{if◌then◌else◌}
 use Rattle.machine_events.specs.declared.event.Event.TheVariants.{Start}
 use Rattle.source_machine.specs.Lives.{end_lives, ends_life}
-use Rattle.machine_model.specs.Schedule.{KeepsOn, begins_life, completes, released_along}
+use Rattle.machine_model.specs.Schedule.{KeepsOn, begins_life, released_along}
+use Rattle.crash_simulation.specs.StorePositions.{stores_into}
 use Rattle.crash_simulation.proofs.BoundaryFences.{joined_fences, same_fences}
+use Rattle.crash_simulation.proofs.CompletedEffects.{completes_none, completes_other, last_unless}
 use Rattle.crash_simulation.specs.BoundaryPassages.{passages}
 use Rattle.crash_simulation.proofs.BoundaryPassages.{ArePassed, FollowsBegun, led_graph, step_passed, then_passes}
 use Rattle.crash_simulation.specs.AccountRelation.{SimulatesLives, beginning_after, next_beginning}
@@ -74,31 +76,6 @@ step_of h n e = cc
 pub not_running : (w : World) (h : ℕ) (hart : Hart) → slice_get w.harts h ≡ Some hart → is_running hart.phase ≡ false → IsInPhase w h Run → ⊥
 not_running w h hart here off i = true≢false (sym (ap is_running (ap (λ (x : Hart). x.phase) (same_Some hart i.hart (sym here ∙ i.here)) ∙ i.phase_is)) ∙ off)
 
--- ---- What a step completes
-
--- nothing of another hart
-completes_other : (test : Effect → Bool) (program : List (List Slot)) (w : World) (h n : ℕ) → n ≢ h → completes test program w (Step h) n ≡ false
-completes_other test program w h n apart = and_left (h == n) _ (unequal_of h n (λ e. apart (sym e)))
-
-abbrev completed_by : (test : Effect → Bool) (program : List (List Slot)) (h : ℕ) → Option Hart → Bool
-completed_by test program h o = elim o [
-  | None ↦ false
-  | Some hart ↦ elim (effect_at program h hart) [
-    | None ↦ false
-    | Some effect ↦ test effect
-  ]
-]
-
--- nothing of any hart where its step completes no instruction
-completes_none : (test : Effect → Bool) (program : List (List Slot)) (w : World) (h n : ℕ) → completing program w h ≡ None →
-    completes test program w (Step h) n ≡ false
-completes_none test program w h n none = elim (same_or_other n h) [
-  | inl same ↦
-      subst (λ (k : ℕ). completes test program w (Step h) k ≡ false) (sym same)
-      (and_right (h == h) (completed_by test program h (completing program w h)) (ap (completed_by test program h) none))
-  | inr apart ↦ completes_other test program w h n apart
-]
-
 start_no_crash : Start ≡ Crash → ⊥
 start_no_crash e = cc e
 
@@ -149,7 +126,7 @@ module _ (y : System) (s : IsSystem y) (w : World) (event : Event) (old : Simula
 
   -- while the life goes on, the source goes on by these steps, and each attempt comes as far as any before; a thread has to give back what it had, or what its
   -- step unlocks; a hart that executes instructions is one step nearer to its next mark by its own steps; what is finished of fences no boundary has more
-  -- ahead; and the graph goes on by the steps, which pass boundaries as points are stored
+  -- ahead; the graph goes on by the steps, which pass boundaries as points are stored; and a store of a hart is its last one then
   pub record Continues {waiting : ℕ → Type 0} (new : SimulatesBut y s later_world waiting) : Type 0 where
     pub source : now new.abstract.config ≡ after_from (now old.abstract.config) (begun_in y w event)
     pub runs : runs_from (now old.abstract.config) (begun_in y w event) ≡ true
@@ -161,6 +138,7 @@ module _ (y : System) (s : IsSystem y) (w : World) (event : Event) (old : Simula
     pub nears : (n : ℕ) → event ≡ Step n → IsInPhase w n Run → Nears y w n (passes_mark marks program w n) (old.ghosts n).before_mark (new.ghosts n).before_mark
     pub fences : (n : ℕ) → AreFencesCounted (boundary_fences y.plan.log) (finishes_fence program w event n) (stores_point program w event n)
         (old.ghosts n).rest (new.ghosts n).rest
+    pub last : (n word : ℕ) → (new.ghosts n).last_stores word ≡ last_store_after program w event n word ((old.ghosts n).last_stores word)
     pub graph : FollowsBegun y (now_of y old.abstract) (now_of y new.abstract) (begun_in y w event)
     pub passed : (n : ℕ) → n < thread_count y → ArePassed y (stores_point program w event n) (passed_in n)
         old.abstract (is_bound (old.ghosts n)) new.abstract (is_bound (new.ghosts n)) n
@@ -186,9 +164,12 @@ module _ (y : System) (s : IsSystem y) (w : World) (event : Event) (old : Simula
     pub on : KeepsOn event → Continues next
     pub whole : begins_life w event ≡ true → ends_life old.abstract.origin.source old.abstract.schedule ≡ true
     pub anew : begins_life w event ≡ true → HasBegun y s later_world next
+    -- where harts have stored last
+    pub last : (n word : ℕ) → (next.ghosts n).last_stores word ≡ last_store_after program w event n word ((old.ghosts n).last_stores word)
     -- a crash cuts boundaries off, and nothing else does
     pub fences : event ≢ Crash → (n : ℕ) → n < thread_count y →
-        AreFencesCounted (boundary_fences y.plan.log) (finishes_fence program w event n) (stores_point program w event n) (old.ghosts n).rest (next.ghosts n).rest
+        AreFencesCounted (boundary_fences y.plan.log) (finishes_fence program w event n) (stores_point program w event n) (old.ghosts n).rest
+        (next.ghosts n).rest
     pub cut_off : event ≡ Crash → (n : ℕ) → (next.ghosts n).rest ≡ []
 
   no_crash : KeepsOn event → event ≢ Crash
@@ -213,6 +194,7 @@ module _ (y : System) (s : IsSystem y) (w : World) (event : Event) (old : Simula
             coe 0 1 (j. AreFencesCounted (boundary_fences y.plan.log) (finishes_fence program w event n) (stores_point program w event n) (old.ghosts n).rest
             ((sym (c.rest n)) j)) (moves.on.fences n);
         cut_off = λ is. absurd (no_crash keeps is);
+        last = last_then;
         on = λ on. record {
           source = c.source ∙ moves.on.source;
           runs = moves.on.runs;
@@ -225,12 +207,18 @@ module _ (y : System) (s : IsSystem y) (w : World) (event : Event) (old : Simula
           fences = λ n.
               coe 0 1 (j. AreFencesCounted (boundary_fences y.plan.log) (finishes_fence program w event n) (stores_point program w event n) (old.ghosts n).rest
               ((sym (c.rest n)) j)) (moves.on.fences n);
+          last = last_then;
           graph = record { runs = moves.on.graph.runs; is = c.states ∙ moves.on.graph.is };
           passed = λ n below.
               then_passes y (stores_point program w event n) (passed_in n) old.abstract moves.next.abstract c.stands.abstract (is_bound (old.ghosts n))
               (is_bound (moves.next.ghosts n)) (is_bound (c.stands.ghosts n)) n (moves.on.passed n below) (c.passed n below);
         };
       }
+    where
+      last_then : (n word : ℕ) → ((all_caught_up y s later_world moves.next).stands.ghosts n).last_stores word
+          ≡ last_store_after program w event n word ((old.ghosts n).last_stores word)
+      last_then n word =
+          ap (λ (m : ℕ → Option ℕ). m word) ((all_caught_up y s later_world moves.next).last n) ∙ moves.on.last n word
 
 -- ---- Whatever happens
 
@@ -275,7 +263,7 @@ module _ (fragments_step : FragmentsStep) (cores_step : CoresStep) where
                 subst (λ (z : Steps). AreCounted y g after old.abstract old.ghosts z (released_by y.runs.program w (Step h) r))
                 (sym (nothing_counted y.runs.marks y.runs.program w h none steps))
                 (account_stays y (record { source = refl; schedule = refl; uncommitted = refl })
-                (λ n. record { bound = refl; leaving = refl; giving = refl; ahead = refl }) (stays_done y.runs.program w h old.machine.sound)
+                (λ n. record { bound = refl; leaving = refl; giving = refl; ahead = refl; last = refl }) (stays_done y.runs.program w h old.machine.sound)
                 (λ n i. last_position (point_in (logs i) (still.words i) n)) (none_released y.runs.program w h releases r) counted);
             sections = λ n. record { sections = refl; between = refl };
             on = record {
@@ -290,6 +278,8 @@ module _ (fragments_step : FragmentsStep) (cores_step : CoresStep) where
               fences = λ n.
                   same_fences (boundary_fences y.plan.log) _ _ (old.ghosts n).rest (completes_none is_fence y.runs.program w h n none)
                   (completes_none (is_point_store w.log n) y.runs.program w h n none);
+              last = λ n word.
+                  last_unless y.runs.program w h word ((old.ghosts n).last_stores word) n (completes_none (stores_into word) y.runs.program w h n none);
               graph = subst (λ (us : List ℕ). FollowsBegun y (now_of y old.abstract) (now_of y old.abstract) us) (sym begun)
                   (record { runs = refl; is = refl });
               passed = λ n below.
@@ -352,6 +342,18 @@ module _ (fragments_step : FragmentsStep) (cores_step : CoresStep) where
                         (same_fences (boundary_fences y.plan.log) _ _ (ghosts n).rest (completes_other is_fence y.runs.program w h n apart)
                         (completes_other (is_point_store w.log n) y.runs.program w h n apart))
                   ]);
+              last = λ n word. elim (same_or_other n h) [
+                | inl same ↦
+                    subst (λ (k : ℕ). (later.ghosts k).last_stores word
+                    ≡ last_store_after y.runs.program w (Step h) k word ((old.ghosts k).last_stores word)) (sym same)
+                    (ap (λ (c : ThreadGhost). c.last_stores word) (own_ghost ghosts h o.ghost)
+                    ∙ (o.counted.last word
+                    ∙ ap (λ (m : ℕ → Option ℕ). last_store_after y.runs.program w (Step h) h word (m word)) (r.similar.same h).last))
+                | inr apart ↦
+                    ap (λ (c : ThreadGhost). c.last_stores word) (other_ghost ghosts h o.ghost n apart)
+                    ∙ (ap (λ (m : ℕ → Option ℕ). m word) (r.similar.same n).last
+                    ∙ last_unless y.runs.program w h word ((old.ghosts n).last_stores word) n (completes_other (stores_into word) y.runs.program w h n apart))
+              ];
               graph =
                   coe 0 1 (j. FollowsBegun y (now_of y (r.similar.abstract j)) (now_of y o.next) (begun_by (marks j) h []))
                   (led_graph y s site.stands.abstract h o.next o.led);
@@ -400,6 +402,7 @@ module _ (fragments_step : FragmentsStep) (cores_step : CoresStep) where
         stays = λ n other. refl;
         nears = λ n is i. cc;
         fences = λ n. same_fences (boundary_fences y.plan.log) false false (old.ghosts n).rest refl refl;
+        last = λ n word. refl;
         graph = record { runs = refl; is = refl };
         passed = λ n below. omega arith;
       };
@@ -417,6 +420,7 @@ module _ (fragments_step : FragmentsStep) (cores_step : CoresStep) where
       on = λ on. absurd on;
       whole = λ begins. absurd (true≢false (sym begins));
       anew = λ begins. absurd (true≢false (sym begins));
+      last = λ n word. refl;
       fences = λ other. absurd (other refl);
       cut_off = λ is n. refl;
     }
@@ -428,6 +432,7 @@ module _ (fragments_step : FragmentsStep) (cores_step : CoresStep) where
           on = λ on. absurd on;
           whole = o.whole;
           anew = o.anew;
+          last = o.last;
           fences = λ other n below. o.fences n below;
           cut_off = λ is. absurd (start_no_crash is);
         }

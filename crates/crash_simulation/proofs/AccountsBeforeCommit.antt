@@ -8,7 +8,8 @@ use Rattle.crash_simulation.proofs.Common.{first_steps, Slot, Phase, Done, Take,
 use Rattle.crash_simulation.proofs.Common.{get-set_same, step_earlier, now, Origin, point_in, Record, is_store}
 use Rattle.crash_simulation.proofs.Common.{IsInPhase, has_all, takes_one, is_kept_from, all_have, one_takes, takes_step, waits_step, resumes_step, stopped_stay}
 use Rattle.crash_simulation.proofs.Common.{Gathers, same_there, same_or_other, holds_none_is, AbstractRun, IsCountedOf, IsAccountedOf, AreCounted, Beginning}
-use Rattle.crash_simulation.proofs.Common.{AreStoredAt, stored_at, last_stored, SimulatesCounted, first_beginning, is_bound, is_leaving, begins, OwnStep, Releases}
+use Rattle.crash_simulation.proofs.Common.{AreStoredAt, stored_at, last_stored, SimulatesCounted}
+use Rattle.crash_simulation.proofs.Common.{first_beginning, is_bound, is_leaving, begins, OwnStep, Releases}
 use Rattle.crash_simulation.proofs.Common.{nothing_released, last_released, StepsOrStutters, with_ghost, IsRecoveredFrom, sections_kept, one_if, IsReleasedOf}
 use Rattle.crash_simulation.proofs.Common.{in_step, cut_off, Simulates, System, IsSystem, thread_count, flat_of, ThreadGhost}
 use Rattle.machine_model.specs.Schedule.{begins_life}
@@ -213,7 +214,7 @@ pub evicted_counted : (y : System) (s : IsSystem y) {g : Beginning} (w : World) 
     (released_by y.runs.program w (Evict line mask) r)
 evicted_counted y s w line mask stands steps r counted =
     account_stays y (record { source = refl; schedule = refl; uncommitted = refl })
-    (λ n. record { bound = refl; leaving = refl; giving = refl; ahead = refl })
+    (λ n. record { bound = refl; leaving = refl; giving = refl; ahead = refl; last = refl })
     (λ n i. let here = ap (λ (v : World). slice_get v.harts n) (evictions_touch y.runs.program w line mask).1 ∙ i.here in
     record { hart = i.hart; here = here; phase_is = i.phase_is })
     (evicted_last_stays y.runs.program w line mask) (λ n. sym (none_more (r n))) counted

@@ -174,7 +174,8 @@ module _ (y : System) where
       one_if stored + points_ahead b bound n + passages_ahead next n ≡ passed + points_ahead next bound_then n + passages_ahead b n
 
   pub then_passes : (stored : Bool) (passed : ℕ) (b next last : AbstractRun y) (bound bound_then bound_last : Bool) (n : ℕ) →
-      ArePassed stored passed b bound next bound_then n → ArePassed false 0 next bound_then last bound_last n → ArePassed stored passed b bound last bound_last n
+      ArePassed stored passed b bound next bound_then n → ArePassed false 0 next bound_then last bound_last n →
+      ArePassed stored passed b bound last bound_last n
   then_passes stored passed b next last bound bound_then bound_last n first later = omega (arith, first, later)
 
   -- the graph goes on by the steps

@@ -126,7 +126,7 @@ module _ (y : System) (s : IsSystem y) (w : World) (k : ℕ) (below : k < thread
             done = subst (λ (n : ℕ). (attempt_of b.config n).done ≡ 0) (sym number) done;
             describes = none_describes y s b code c.new begun;
             unlocks = λ mutex u. absurd (omega (arith, u.begun, begun));
-          }) (stands.each k below) not_yet sooner_at;
+          }) s stands.memory (stands.each k below) not_yet sooner_at;
       others = λ n inside apart. stands.each n inside;
     }
     taken_by (attempt may) =
@@ -151,7 +151,7 @@ module _ (y : System) (s : IsSystem y) (w : World) (k : ℕ) (below : k < thread
             describes = own_describes y s b k may code c.new number;
             unlocks = subst (λ (n : ℕ). (mutex : ℕ) → HasUnlocked b.config n mutex → LastUnlocks next.origin.source next.schedule n mutex) (sym number)
                 (unlock_kept y s b k may);
-          }) (stands.each k below) not_yet sooner_at;
+          }) s stands.memory (stands.each k below) not_yet sooner_at;
           others = λ n inside apart.
               other_stands y s b k may (s.codes.each n inside) (λ e. apart (sym (s.codes.number n inside) ∙ e)) (stands.ghosts n) w (stands.each n inside);
         }
@@ -234,8 +234,8 @@ module _ (y : System) (s : IsSystem y) (w : World) (k : ℕ) (below : k < thread
 
 -- ---- All threads
 
--- commits of so many threads are taken: the state now is the same, what each thread has still to give back, and how near its hart is to its next mark; where
--- each attempt has come as far as any before, so it has then; and the machine has kept the steps that are bound to durable points
+-- commits of so many threads are taken: the state now is the same, what each thread has still to give back, how near its hart is to its next mark, and where
+-- that has stored last; where each attempt has come as far as any before, so it has then; and the machine has kept the steps that are bound to durable points
 pub record CatchesUp (y : System) (s : IsSystem y) (w : World) (first : SimulatesBut y s w anybody) (count : ℕ) (waiting : ℕ → Type 0) : Type 0 where
   pub stands : SimulatesBut y s w waiting
   pub source : now stands.abstract.config ≡ now first.abstract.config
@@ -243,6 +243,7 @@ pub record CatchesUp (y : System) (s : IsSystem y) (w : World) (first : Simulate
   pub giving : (n : ℕ) → (stands.ghosts n).giving ≡ (first.ghosts n).giving
   pub ahead : (n : ℕ) → (stands.ghosts n).before_mark ≡ (first.ghosts n).before_mark
   pub rest : (n : ℕ) → (stands.ghosts n).rest ≡ (first.ghosts n).rest
+  pub last : (n : ℕ) → (stands.ghosts n).last_stores ≡ (first.ghosts n).last_stores
   -- the graph is where it was, and of boundaries that are passed and points that are stored as many are ahead
   pub states : now_of y stands.abstract ≡ now_of y first.abstract
   pub passed : (n : ℕ) → n < thread_count y →
@@ -298,6 +299,7 @@ module _ (y : System) (s : IsSystem y) (w : World) (first : SimulatesBut y s w a
           giving = h.giving;
           ahead = h.ahead;
           rest = h.rest;
+          last = h.last;
           states = one.states ∙ h.states;
           passed = λ n inside.
               then_passes y false 0 first.abstract b one.next (is_bound (first.ghosts n)) (is_bound (h.stands.ghosts n)) _ n (h.passed n inside)
@@ -327,6 +329,7 @@ module _ (y : System) (s : IsSystem y) (w : World) (first : SimulatesBut y s w a
       giving = h.giving;
       ahead = h.ahead;
       rest = h.rest;
+      last = h.last;
       states = h.states;
       passed = h.passed;
       counted = λ g steps r counted.
@@ -368,6 +371,7 @@ module _ (y : System) (s : IsSystem y) (w : World) (first : SimulatesBut y s w a
     giving = λ n. refl;
     ahead = λ n. refl;
     rest = λ n. refl;
+    last = λ n. refl;
     states = refl;
     passed = λ n inside. omega arith;
     counted = λ g steps r counted. counted;

@@ -62,12 +62,14 @@ pub use Rattle.machine_model.specs.Schedule.{Steps, has_moved, is_running, compl
 pub use Rattle.machine_model.specs.Schedule.{with_begun, then_stored, with_stored, is_up_to, is_durable, with_kept, with_all_kept, steps_along, releases_last}
 pub use Rattle.machine_model.specs.Schedule.{released_count, LifeSchedules, only_life, first_steps, effect_at, is_point_store, is_fence, finishes_fence}
 unfoldable pub use Rattle.machine_model.specs.Schedule.{steps_after}
+pub use Rattle.crash_simulation.specs.StorePositions.{last_store_after}
 pub use Rattle.rv64_isa.specs.declared.instr.Instr.{Instr}
 pub use Rattle.rv64_isa.specs.declared.instr.Instr.TheVariants.{Ecall}
 pub use Rattle.rv64_isa.specs.declared.object.Slot.{Slot}
 pub use Rattle.machine_model.specs.declared.phase.Phase.{Phase}
 pub use Rattle.machine_model.specs.declared.phase.Phase.TheVariants.{Done, Take, Wait, Resume, Run, Ended}
-pub use Rattle.machine_model.proofs.Public.{log_stays, evictions_touch, steps_touch, get-set_same, step_earlier, get-set_other, crashes_simulate, starts_simulate}
+pub use Rattle.machine_model.proofs.Public.{log_stays, evictions_touch, steps_touch, get-set_same}
+pub use Rattle.machine_model.proofs.Public.{step_earlier, get-set_other, crashes_simulate, starts_simulate}
 pub use Rattle.machine_model.proofs.Public.{queues_stand}
 pub use Rattle.flow_graph.specs.Actions.{Seen, GraphThread, FlowState, seen_by, effect_of, graph_step, effect_step, graph_after, graph_thread_start}
 pub use Rattle.flow_graph.specs.IdempotentCuts.{IsChosen, IsUnlock, AreCuts, at_boundary}
@@ -184,3 +186,4 @@ pub use Rattle.crash_simulation.specs.Systems.{System, IsSystem, thread_count, f
 pub use Rattle.crash_simulation.specs.ThreadGhosts.{Rests, ThreadGhost, on_fragment, at_core, InPhase, ThreadInv, IsRunningThread, GoesClean, IsBounded}
 pub use Rattle.crash_simulation.specs.ThreadGhosts.{ExitInv, HasCommittedLog, committed, AnswersGuarded, IsGuarded, InFragment, is_reached, is_ahead, IsFlushed}
 pub use Rattle.crash_simulation.specs.ThreadGhosts.{IsComing, HasStored, record_kept, IsInAttempt, HasRecords}
+pub use Rattle.crash_simulation.specs.ThreadGhosts.{IsOnItsWay, durable_there, comes_with, recorded_in, IsWordOf}

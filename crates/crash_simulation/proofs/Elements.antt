@@ -102,3 +102,15 @@ module _ (y : System) (s : IsSystem y) where
       let long : length (history_at (memory_in (places_of y) old) v e).values ≡ 1 = ap (λ (h : History). length h.values) (past old) in
       omega (arith, l, long))
       (there_or_none v e)
+
+  -- a word is durable as of a position once its element is
+  pub word_durable : (words : List Word) (v e position : ℕ) → position ≤ (history_at (memory_in (places_of y) words) v e).durable →
+      position ≤ (word_at words (word_of_element v e)).durable
+  word_durable words v e position l = ⊎_elim
+      (λ there.
+      let same = (positions_meet (places_of y) words v e there.kind (byte_number (variable_at (shapes_of y) v e)) there.at).durable in
+      omega (arith, l, same))
+      (λ past.
+      let low : (history_at (memory_in (places_of y) words) v e).durable ≡ 0 = ap (λ (h : History). h.durable) (past words) in
+      omega (arith, l, low))
+      (there_or_none v e)

@@ -14,11 +14,13 @@ use Rattle.crash_simulation.proofs.Common.{IsOnFragment, on_machine, Keeps, Asks
 use Rattle.crash_simulation.proofs.Common.{AbstractRun, kept_of, is_bound, was_unlocked, Site, FragmentsStep, nothing_released, is_nearer, MayStore, nothing}
 use Rattle.crash_simulation.proofs.Common.{in_log, goes, OnFragmentNow, IsSoon, beyond, System, IsSystem, flat_of, shapes_of, places_of, ThreadGhost}
 use Rattle.crash_simulation.proofs.Common.{on_fragment, InPhase, ThreadInv, ExitInv, InFragment, is_reached, is_ahead, IsFlushed}
-use Rattle.crash_simulation.proofs.Common.{is_fence, finishes_fence, boundary_fences, AreFencesCounted}
+use Rattle.crash_simulation.proofs.Common.{is_fence, finishes_fence, boundary_fences, AreFencesCounted, log_stays, last_store_after, IsWordOf, recorded_in}
 use Rattle.ido_base.specs.Growth as growth
 use Rattle.hart_runs.specs.RunSteps as steps
 use Rattle.thread_runs.specs.Laws as runs
 use Rattle.crash_simulation.proofs.BoundaryFences.{same_fences, next_fences}
+use Rattle.crash_simulation.proofs.CompletedEffects.{last_by, last_store_is, step_durable, step_last, stores_none}
+use Rattle.crash_simulation.proofs.LogWords.{stored_for}
 use Rattle.crash_simulation.proofs.OwnHartSteps.{step_to, view, StepOf, own_step, held_still}
 use Rattle.crash_simulation.proofs.PendingFlushes.{Passage, StillComes, run_after, stored_same, fence_settles}
 use Rattle.crash_simulation.proofs.ThreadViews.{IsStill, committed_on, exit_on, log_moved, moves_at}
@@ -143,7 +145,12 @@ module _ {y : System} {s : IsSystem y} {w : World} {h : ℕ} (site : Site y s w 
       PersistsThrough v.words hart.queue (8 * (byte_number address / 64) + k) (last_position (word_at w.words (8 * (byte_number address / 64) + k)))
 
   abbrev ghost_with : (rest cleans : List Effect) → ThreadGhost
-  ghost_with rest cleans = record c { rest = rest; cleans = cleans; before_mark = c.before_mark - 1 }
+  ghost_with rest cleans = record c {
+    rest = rest;
+    cleans = cleans;
+    before_mark = c.before_mark - 1;
+    last_stores = λ word. last_store_after y.runs.program w (Step n) n word (c.last_stores word);
+  }
 
   -- what is counted of the step, where this is ahead of the boundary then
   abbrev FencesCounted : List Effect → Type 0
@@ -173,8 +180,13 @@ module _ {y : System} {s : IsSystem y} {w : World} {h : ℕ} (site : Site y s w 
     no_cleans : c.cleans ≡ [] → cleans ≡ []
     still : (address : ℕ) → Contains c.cleans (Cleans address) → Contains cleans (Cleans address) ⊎ IsQueued d.on.on.hart address
 
+  -- what is last after the step was so before, or is stored for the record
+  abbrev LastsHere : Type 0
+  LastsHere = (word position : ℕ) → last_store_after y.runs.program w (Step n) n word (c.last_stores word) ≡ Some position →
+      (c.last_stores word ≡ Some position) ⊎ (IsWordOf w.log n c.new word × (position ≤ last_position (word_at v.words word)))
+
   module _ (d : Does) (ahead : Ahead d) (persisted : ArePersisted old_memory new_memory) (move : MovesTo n w fragment.on.hart c.rest v ahead.rest)
-      (settled : Settles ahead.rest) (may : MayStore y b n d.effect)
+      (settled : Settles ahead.rest) (may : MayStore y b n d.effect) (lasts : LastsHere)
       (points : stores_point y.runs.program w (Step n) n ≡ (not (is_bound c) && is_bound (ghost_with ahead.rest ahead.cleans)))
       (bound : is_bound c ≡ true → is_bound (ghost_with ahead.rest ahead.cleans) ≡ true) (fences : FencesCounted ahead.rest) where
     open ahead use {rest, cleans}
@@ -223,6 +235,9 @@ module _ {y : System} {s : IsSystem y} {w : World} {h : ℕ} (site : Site y s w 
     fragment_after : InFragment y v next code new hart graph_thread exit d.more
     fragment_after = grind (arith, exit_on, fragment, nearer, still)
 
+    in_log_then : (word : ℕ) → IsWordOf w.log n c.new word → IsWordOf v.log n c.new word
+    in_log_then word among = subst (λ (l : Log). IsWordOf l n c.new word) (sym (log_stays y.runs.program w (Step n) sound)) among
+
     thread_after : ThreadInv y v next code new
     thread_after = record {
       log = log_moved t.log moves;
@@ -236,7 +251,9 @@ module _ {y : System} {s : IsSystem y} {w : World} {h : ℕ} (site : Site y s w 
       walks = t.walks;
       phase = subst (λ (p : Phase). InPhase y v next code new hart graph_thread p) (sym d.on.on.runs) (on_fragment exit d.more fragment_after);
       stored = stored_same passage ahead.all coming (λ u e position since. since_is_persisted b.config.memory new_memory u e position persisting since)
-          (λ u e f un few. settled u e un few f) refl t.stored;
+          (λ u e f un few. settled u e un few f) refl (step_durable y.runs.program w n sound)
+          (λ word position is. ⊎_elim (λ was. inl was) (λ own. inr (in_log_then word own.0, own.1)) (lasts word position is))
+          (λ word position among low. recorded_in (in_log_then word among) (step_last y.runs.program w n sound word position low)) t.stored;
     }
 
     step_made : StepOf site n
@@ -259,6 +276,7 @@ module _ {y : System} {s : IsSystem y} {w : World} {h : ℕ} (site : Site y s w 
         bound = bound;
         fences = fences;
         nears = is_nearer nearer.0;
+        last = λ word. refl;
       };
       released = nothing_released (holders_stay_none y.runs.program w n d.holders) refl;
     }
@@ -273,6 +291,11 @@ module _ {y : System} {s : IsSystem y} {w : World} {h : ℕ} (site : Site y s w 
 
   next_is : (effect : Effect) → effect_at y.runs.program n fragment.on.hart ≡ Some effect → IsNext y.runs.program w n fragment.on.hart effect
   next_is effect at = record { here = fragment.on.here; runs = ap is_running fragment.on.runs; is = at }
+
+  -- a step that stores nothing leaves the last stores
+  lasts_none : (d : Does) → is_store d.effect ≡ false → LastsHere
+  lasts_none d none word position is =
+      inl (last_by y.runs.program w n word (c.last_stores word) fragment.on.hart d.effect d.next (stores_none word d.effect none) ∙ is)
 
   -- a step that stores nothing leaves the log
   still_moves : (d : Does) → is_store d.effect ≡ false → MovesTo n w fragment.on.hart c.rest v c.rest
@@ -312,6 +335,7 @@ module _ {y : System} {s : IsSystem y} {w : World} {h : ℕ} (site : Site y s w 
         holders = ap (λ (z : World). z.holders) d.world;
       } in
       step_made does (all_ahead does refl) persisted (still_moves does none) (settled_still persisted c.rest refl) (nothing d.effect none)
+      (lasts_none does none)
       (u.counts.0 ∙ not_twice (is_bound c)) (λ e. e) (same_fences (boundary_fences y.plan.log) _ _ c.rest u.counts.1 u.counts.0)
 
   -- ---- A step that goes on
@@ -344,7 +368,7 @@ module _ {y : System} {s : IsSystem y} {w : World} {h : ℕ} (site : Site y s w 
     makes_none ahead same none unfenced =
         let persisted = same_persisted (ap (memory_in (places_of y)) (words_are ∙ words_same effect old g.forward.contents none g.forward.changes)) in
         step_made does ahead persisted (subst (MovesTo n w fragment.on.hart c.rest v) (sym same) (still_moves does none))
-        (settled_still persisted ahead.rest (ap fences_ahead same)) (nothing effect none)
+        (settled_still persisted ahead.rest (ap fences_ahead same)) (nothing effect none) (lasts_none does none)
         (g.point ∙ no_point w.log n effect none ∙ not_twice (is_bound c)
         ∙ ap (λ (es : List Effect). not (is_bound c) && is_bound (record c { rest = es })) (sym same))
         (λ e. ap (λ (es : List Effect). is_bound (record c { rest = es })) same ∙ e)
@@ -417,6 +441,19 @@ module _ {y : System} {s : IsSystem y} {w : World} {h : ℕ} (site : Site y s w 
       persisted = same_persisted (ap (memory_in (places_of y)) words_are
           ∙ log_memory y s w n effect fragment.on.hart.queue g.forward.contents g.forward.changes inside.0)
 
+      lasts_in_log : IsLogEffect w.log n effect → LastsHere
+      lasts_in_log (StoresWord i value below same) word position last =
+          ⊎_elim (λ was. inl was) (λ made. inr (
+            subst (IsWordOf w.log n c.new) (sym made.0)
+                (stored_for w.log n c.old c.new (config_of w t.log.hart c.rest) t.log.log (log_of w.log n + 8 * i) 8 value g.later
+                (rest ∙ ap (λ (x : Effect). x ∷ g.later) same) t.log.log.stage),
+            made.1,
+          ))
+          (last_store_is y.runs.program w n word (c.last_stores word) fragment.on.hart (log_of w.log n + 8 * i) 8 value position
+          (subst (IsNext y.runs.program w n fragment.on.hart) same does.next) last)
+      lasts_in_log (CleansLine i below same) word position last = lasts_none does (ap is_store same) word position last
+      lasts_in_log (PassesFence same) word position last = lasts_none does (ap is_store same) word position last
+
       -- a store of the point binds the steps, and no other effect does
       abbrev then_bound : ThreadGhost
       then_bound = ghost_with g.later c.cleans
@@ -431,7 +468,7 @@ module _ {y : System} {s : IsSystem y} {w : World} {h : ℕ} (site : Site y s w 
         no_rest = λ none. absurd (some_rest none);
         no_cleans = λ e. e;
         still = λ address found. inl found;
-      }) persisted moves_log settled (log_may y b w n logs effect inside.0) points bound fences
+      }) persisted moves_log settled (log_may y b w n logs effect inside.0) (lasts_in_log inside.0) points bound fences
 
       -- the effect is no more ahead
       fences_counted : (is_store effect ≡ true → stores_point y.runs.program w (Step n) n ≡ not (list_any is_store g.later)) → FencesCounted g.later

@@ -13,7 +13,9 @@ use Rattle.crash_simulation.proofs.Common.{others_leave, others_reach, IsOnFragm
 use Rattle.crash_simulation.proofs.Common.{others_keep_fragments, others_keep_cores, Code, Describes, same_there, same_or_other, others_describe, AbstractRun}
 use Rattle.crash_simulation.proofs.Common.{kept_of, now_of, attempts_of, StepsOrStutters, stays, goes, IsDoneBy, abstract_next, System, IsSystem, flat_of}
 use Rattle.crash_simulation.proofs.Common.{shapes_of, ThreadGhost, on_fragment, at_core, InPhase, ThreadInv, IsRunningThread, AnswersGuarded, is_reached}
-use Rattle.crash_simulation.proofs.Common.{is_ahead, IsComing, HasStored, record_kept}
+use Rattle.crash_simulation.proofs.Common.{is_ahead, IsComing, IsFlushed, HasStored, durable_there, comes_with, recorded_in, IsWordOf, record_kept}
+use Rattle.crash_simulation.proofs.Common.{Log, last_position, word_at}
+use Rattle.crash_simulation.proofs.CompletedEffects.{others_last}
 use Rattle.recovery_semantics.specs.Events.{Stores}
 use Rattle.c_tree.specs.Flats as f
 use Rattle.c_tree.specs.Source as m
@@ -155,6 +157,7 @@ pub record IsLeftAlone (y : System) (w v : World) (b : AbstractRun y) (code : Co
       IsAtCore y.plan code.thread code.is.places w code.thread.number at seen side registers →
       IsAtCore y.plan code.thread code.is.places v code.thread.number at seen side registers
   pub reach : (queue : List Entry) (j position : ℕ) → PersistsThrough w.words queue j position → PersistsThrough v.words queue j position
+  pub longer : (j position : ℕ) → position ≤ last_position (word_at w.words j) → position ≤ last_position (word_at v.words j)
 
 -- a log makes no move where memory is as it was, and its hart's queue
 pub moves_nowhere : (w v : World) (thread : ℕ) (old new : Hart) (rest : List Effect) → v.words ≡ w.words → new.queue ≡ old.queue →
@@ -198,7 +201,8 @@ module _ (y : System) (b next : AbstractRun y) (code : Code y.plan) (c : ThreadG
     cleaned_back first line cleans = grind arith
 
     module _ (w v : World)
-        (reach : (queue : List Entry) (j position : ℕ) → PersistsThrough w.words queue j position → PersistsThrough v.words queue j position) where
+        (reach : (queue : List Entry) (j position : ℕ) → PersistsThrough w.words queue j position → PersistsThrough v.words queue j position)
+        (longer : (j position : ℕ) → position ≤ last_position (word_at w.words j) → position ≤ last_position (word_at v.words j)) where
       coming_on : (hart later : Hart) → later.queue ≡ hart.queue → (u e position : ℕ) → IsComing y w c.cleans hart u e position →
           IsComing y v c.cleans later u e position
       coming_on hart later queue u e position (is_reached r) =
@@ -206,23 +210,30 @@ module _ (y : System) (b next : AbstractRun y) (code : Code y.plan) (c : ThreadG
           is_reached (subst (λ (q : List Entry). PersistsThrough v.words q word position) (sym queue) (reach hart.queue word position r))
       coming_on hart later queue u e position (is_ahead variable element ahead line) = is_ahead variable element ahead line
 
-      -- what it has stored, where its hart has the same queue
-      stored_on : (hart later : Hart) → later.queue ≡ hart.queue → (giving : Option ℕ) (before_mark : ℕ) → HasStored y w b code c hart →
+      -- an element is on its way still, where its hart has the same queue
+      abbrev flushed_on : (hart later : Hart) → later.queue ≡ hart.queue → (giving : Option ℕ) (before_mark : ℕ) (u e : ℕ) → IsFlushed y w b code c hart u e →
+          IsFlushed y v next code (record c { giving = giving; before_mark = before_mark }) later u e
+      flushed_on hart later queue giving before_mark u e f = record {
+        before = f.before;
+        within = omega (arith, f.within, still.on.done);
+        writes = still.writes_on f.before u e f.within f.writes;
+        position = f.position;
+        since = still.since u e f.position (record { before = f.before; within = f.within; at = f.writes }) f.since;
+        comes = λ cleans. coming_on hart later queue u e f.position (f.comes (cleaned_back f.before (line_of (shapes_of y) u e) cleans));
+        fenced = λ un few. let low = f.fenced un few in let high = still.durable u e in omega (arith, low, high);
+      }
+
+      -- what it has stored
+      stored_on : (hart later : Hart) → later.queue ≡ hart.queue → v.log ≡ w.log → (giving : Option ℕ) (before_mark : ℕ) → HasStored y w b code c hart →
           HasStored y v next code (record c { giving = giving; before_mark = before_mark }) later
-      stored_on hart later queue giving before_mark stored = record {
+      stored_on hart later queue log giving before_mark stored = record {
         cleans = stored.cleans;
-        flushed = λ u e written.
-            let earlier = written_back u e written in
-            let f = stored.flushed u e earlier in
-            record {
-              before = f.before;
-              within = omega (arith, f.within, still.on.done);
-              writes = still.writes_on f.before u e f.within f.writes;
-              position = f.position;
-              since = still.since u e f.position earlier f.since;
-              comes = λ cleans. coming_on hart later queue u e f.position (f.comes (cleaned_back f.before (line_of (shapes_of y) u e) cleans));
-              fenced = λ un few. let low = f.fenced un few in let high = still.durable u e in omega (arith, low, high);
-            };
+        flushed = λ u e written. flushed_on hart later queue giving before_mark u e (stored.flushed u e (written_back u e written));
+        last = λ word position is. elim (stored.last word position is) [
+          | durable_there low ↦ durable_there (reach [] word position low)
+          | comes_with u e f at low ↦ comes_with u e (flushed_on hart later queue giving before_mark u e f) at low
+          | recorded_in among low ↦ recorded_in (subst (λ (l : Log). IsWordOf l n c.new word) (sym log) among) (longer word position low)
+        ];
       }
 
       -- all of it, whichever its phase, where it has no more to give back
@@ -241,7 +252,7 @@ module _ (y : System) (b next : AbstractRun y) (code : Code y.plan) (c : ThreadG
         graph_thread = t.graph_thread;
         walks = still.graph_thread ∙ t.walks;
         phase = phase;
-        stored = stored_on t.log.hart m.next queue giving before_mark t.stored;
+        stored = stored_on t.log.hart m.next queue m.log giving before_mark t.stored;
       }
 
     module _ (w v : World) (left : IsLeftAlone y w v b code c) where
@@ -276,7 +287,7 @@ module _ (y : System) (b next : AbstractRun y) (code : Code y.plan) (c : ThreadG
 
       pub stands_kept : ThreadInv y w b code c → ThreadInv y v next code c
       stands_kept t =
-          stands_with w v left.reach c.giving c.before_mark (λ mutex gives. gives) t
+          stands_with w v left.reach left.longer c.giving c.before_mark (λ mutex gives. gives) t
           (record { next = t.log.hart; there = left.here t.log.hart t.log.here; log = left.log; moves = left.moves t.log.hart t.log.here }) refl
           (in_phase_on t.log.hart t.graph_thread t.log.hart.phase t.phase)
 
@@ -333,6 +344,7 @@ module _ (y : System) (b : AbstractRun y) (code : Code y.plan) (c : ThreadGhost)
       cores = λ at seen side registers o.
           others_keep_cores y.plan code.thread code.is.places y.runs.program w n at seen side registers event of.sound of.of_others o;
       reach = λ queue j position r. others_reach y.runs.program w n event of.sound of.of_others queue j position r;
+      longer = others_last y.runs.program w n event of.sound of.of_others;
     }
 
     -- where nothing happens to the source
@@ -365,7 +377,8 @@ pub phase_moves : {y : System} {w : World} (v : World) {b : AbstractRun y} {code
 phase_moves {y} {w} v {b} {code} {c} giving before_mark gives t hart q phase =
     let n = code.thread.number in
     stands_with y b b code c (is_kept y b code c b.config b.execution b.respects (stays_unmoved (flat_of y) b.origin b.schedule b.config n)) w v
-    (λ queue j position. subst (λ (ws : List Word). PersistsThrough ws queue j position) (sym q.words)) giving before_mark gives t
+    (λ queue j position. subst (λ (ws : List Word). PersistsThrough ws queue j position) (sym q.words))
+    (λ j position. subst (λ (ws : List Word). position ≤ last_position (word_at ws j)) (sym q.words)) giving before_mark gives t
     (record { next = hart; there = q.here; log = q.log; moves = moves_nowhere w v n t.log.hart hart c.rest q.words q.queue }) q.queue phase
 
 -- a step of another hart that leaves memory leaves the thread

@@ -1,6 +1,9 @@
 pub mod Public
 mod Common
 mod BoundaryFences
+mod WorkedStores
+mod CompletedEffects
+mod LogWords
 mod StatesMatchSource
 mod StepsAfterMarks
 mod RecordsAfterCrash

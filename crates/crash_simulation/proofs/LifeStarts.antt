@@ -81,6 +81,8 @@ module _ (y : System) (s : IsSystem y) (w : World) (old : Simulates y s w) where
     -- no boundary is under way of a hart that has stopped
     pub fences : (n : ℕ) → n < thread_count y →
         AreFencesCounted (boundary_fences y.plan.log) false false (old.ghosts n).rest (next.ghosts n).rest
+    -- no hart has stored yet in the life that begins
+    pub last : (n word : ℕ) → (next.ghosts n).last_stores word ≡ (if may then None else (old.ghosts n).last_stores word)
 
   -- ---- Another life begins
 
@@ -156,6 +158,7 @@ module _ (y : System) (s : IsSystem y) (w : World) (old : Simulates y s w) where
     whole = λ begins. life_whole is;
     anew = λ begins. life_anew is;
     fences = life_fences is;
+    last = λ n word. refl;
   }
   starts false is = record {
     next = old;
@@ -164,6 +167,7 @@ module _ (y : System) (s : IsSystem y) (w : World) (old : Simulates y s w) where
     whole = λ begins. absurd (true≢false (sym begins));
     anew = λ begins. absurd (true≢false (sym begins));
     fences = λ n below. same_fences (boundary_fences y.plan.log) false false (old.ghosts n).rest refl refl;
+    last = λ n word. refl;
   }
 
   pub start_goes : StartsTo (can_start w) (after_event program w Start)

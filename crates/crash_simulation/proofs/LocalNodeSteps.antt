@@ -4,6 +4,9 @@ use Rattle.crash_simulation.proofs.Common.{nat_tests, none-some, Guards, element
 use Rattle.crash_simulation.proofs.Common.{reads_of, store_ahead, WritesAt, IsInnerStep, now, attempt_of, begun, ConfigStep, steps_locally, memory_in, HasCome}
 use Rattle.crash_simulation.proofs.Common.{stores_nothing, MarksPass, AbstractRun, kept_of, now_of, nothing, System, IsSystem, flat_of, places_of}
 use Rattle.flow_graph.specs.Actions.{Effect}
+use Rattle.crash_simulation.proofs.Common.{durable_there, comes_with, recorded_in}
+use Rattle.crash_simulation.proofs.CompletedEffects.{last_by, step_durable, stores_none}
+use Rattle.crash_simulation.proofs.PendingFlushes.{ComesNow}
 use Rattle.crash_simulation.proofs.NodeEffects.{is_quiet, source_steps, locks_none, unlocks_none, ahead_none}
 use Rattle.crash_simulation.proofs.ConfigAfterBegin.{one_longer, attempted, alone_ahead}
 use Rattle.crash_simulation.proofs.GraphAfterBegin.{matches_now, follows_on, not_come}
@@ -11,7 +14,7 @@ use Rattle.crash_simulation.proofs.NodeEnvironments.{reads_variables, answers_gu
 use Rattle.crash_simulation.proofs.OwnHartSteps.{view, StepOf, AtNode}
 use Rattle.crash_simulation.proofs.MarksAtNodes.{IsUnseen, unseen, quiet_may, quiet_seen, quiet_free, Doing, MarkIn, AtMark, Passes, environment, in_graph}
 use Rattle.crash_simulation.proofs.MarksAtNodes.{graph_step_is, at_some_mark}
-use Rattle.crash_simulation.proofs.MarkSteps.{is_plain, plain_holders, flushed_passed, passed_step, is_next}
+use Rattle.crash_simulation.proofs.MarkSteps.{is_plain, plain_holders, flushed_on, flushed_passed, passed_record, passed_step, is_next}
 use Rattle.crash_simulation.proofs.StatesMatchSource.{resumed}
 use Rattle.crash_simulation.proofs.Loads.{reads_all}
 use Rattle.crash_simulation.proofs.ThreadViews.{none_clean}
@@ -123,12 +126,23 @@ module _ {y : System} {s : IsSystem y} {w : World} {h : ℕ} (site : AtNode y s 
         ∙ plain_holders (now_of y b) n graph_thread e (quiet_plain e quiet) ∙ (matches_now y s b).holders in
         ap (λ (hs : List (Option ℕ)). slice_get hs (element_lock (flat_of y).variables one.variable one.element)) holders ∙ old
 
+    no_clean : ComesNow (passing.passage site passed)
+    no_clean now line cleaned = absurd (none_written _ _ cleaned.stores)
+
     quiet_passes : StepOf site.hart n
     quiet_passes =
         passed_step site passed
         (answers_guarded site (reads_of node.action seen) (now next.config) guards)
-        (λ u i. flushed_passed site passed u i (none_written u i) (λ position since. since)
-        (λ now line cleaned. absurd (none_written _ _ cleaned.stores)))
+        (λ u i. flushed_passed site passed u i (none_written u i) (λ position since. since) no_clean)
+        (λ word position is.
+        let same : (view site.hart).c.last_stores word ≡ Some position =
+        last_by y.runs.program w n word ((view site.hart).c.last_stores word) mark.at.on.hart p.forward.effect (is_next site at_mark p)
+        (stores_none word p.forward.effect nothing_seen.no_store) ∙ is in
+        elim (t.stored.last word position same) [
+          | durable_there low ↦ durable_there (step_durable y.runs.program w n site.hart.stands.machine.sound word position low)
+          | comes_with u i f at low ↦ comes_with u i (flushed_on site passed u i (λ position since. since) no_clean f) at low
+          | recorded_in among low ↦ passed_record site passed word position among low
+        ])
 
   pub quiet_step : MarksPass → StepOf site.hart n
   quiet_step marks = mark_step site at_mark marks quiet_passes

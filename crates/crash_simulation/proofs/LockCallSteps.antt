@@ -13,9 +13,12 @@ use Rattle.crash_simulation.proofs.Common.{fragments_see_all, cleans_on, locks_t
 use Rattle.crash_simulation.proofs.Common.{holds_none_is, AbstractRun, kept_of, now_of, is_bound, was_unlocked, Site, nothing_released, stays, MayStore}
 use Rattle.crash_simulation.proofs.Common.{nothing, goes, OnFragmentNow, abstract_next, thread_of, begins_step, AreHeld, most_ahead, System, IsSystem}
 use Rattle.crash_simulation.proofs.Common.{thread_count, flat_of, places_of, ThreadGhost, on_fragment, InPhase, ThreadInv, GoesClean, InFragment}
-use Rattle.crash_simulation.proofs.Common.{finishes_fence, boundary_fences, AreFencesCounted}
+use Rattle.crash_simulation.proofs.Common.{finishes_fence, boundary_fences, AreFencesCounted, last_store_after, config_of, durable_there}
 use Rattle.crash_simulation.specs.InstructionSteps as moving
 use Rattle.crash_simulation.proofs.BoundaryFences.{begins_fences, same_fences}
+use Rattle.log_states.proofs.Public.{ends}
+use Rattle.crash_simulation.proofs.CompletedEffects.{last_by, step_durable}
+use Rattle.crash_simulation.proofs.LogWords.{recorded_settled}
 use Rattle.crash_simulation.proofs.LastReleases.{no_release, holders_stay_none, none_leaving, and_none}
 use Rattle.crash_simulation.proofs.StatesMatchSource.{resumed, kept_matches, orderly, now_orderly, now_good}
 use Rattle.crash_simulation.proofs.Boundaries.{after_lock_in, IsBeginning, BoundaryIsRecoverable, boundaries_begin}
@@ -119,6 +122,9 @@ module _ {y : System} {s : IsSystem y} {w : World} {h : ℕ} {exit : ExitPoint} 
     pub call_stores : (hart : Hart) (effect : Effect) → IsNext y.runs.program w n hart effect → MayStore y b n effect
     call_stores hart effect is = subst (MayStore y b n) (one_effect y.runs.program w n a.hart hart Calls effect calls_next is) (nothing Calls refl)
 
+    pub last_still : (word : ℕ) → c.last_stores word ≡ last_store_after y.runs.program w (Step n) n word (c.last_stores word)
+    last_still word = last_by y.runs.program w n word (c.last_stores word) a.hart Calls calls_next refl
+
     pub call_elsewhere : IsElsewhere y.runs.program w n n
     call_elsewhere = stores_nothing y.runs.program w n n a.hart Calls calls_next refl
 
@@ -194,6 +200,7 @@ module _ {y : System} {s : IsSystem y} {w : World} {h mutex next : ℕ} (at : At
           bound = λ e. e;
           fences = fences_still at at_lock;
           nears = moving.waits mutex holder l.0 refl;
+          last = last_still at at_lock;
         };
         released = nothing_released (holders_stay_none y.runs.program w n (ap (λ (x : World). x.holders) still)) refl;
       }
@@ -369,7 +376,11 @@ module _ {y : System} {s : IsSystem y} {w : World} {h mutex next : ℕ} (at : At
           (ap (λ (x : Hart). x.queue) (same_there (slice_get v.harts n) new (gone_on asks.on.hart) it.on.on.on.here (alone at moving_hart).here)
           ∙ (alone at moving_hart).queue)))
           (λ u e position since. since)
-          (λ u e f un few. let two = boundaries_fence b_next at.o.side resume asks.registers in absurd (omega (arith, two, few))) refl t.stored;
+          (λ u e f un few. let two = boundaries_fence b_next at.o.side resume asks.registers in absurd (omega (arith, two, few))) refl
+          (step_durable y.runs.program w n at.site.stands.machine.sound) (λ word position is. inl is)
+          (λ word position among low.
+          let settled = recorded_settled w.log n c.new w.words (ends w.log n c.old c.new (config_of w t.log.hart c.rest) t.log.log (rest_over at)) word among in
+          durable_there (step_durable y.runs.program w n at.site.stands.machine.sound word position (omega (arith, low, settled)))) t.stored;
     }
 
     takes_mutex : StepOf at.site n
@@ -397,6 +408,7 @@ module _ {y : System} {s : IsSystem y} {w : World} {h mutex next : ℕ} (at : At
             (begins_fences (boundary_fences y.plan.log) _ _ then_ghost.rest it.counts.1 it.counts.0
             (boundaries_fence b_next at.o.side resume asks.registers) (boundary_stores b_next at.o.side resume asks.registers));
         nears = begins_step refl;
+        last = last_still at at_lock;
       };
       released = nothing_released (no_release y.runs.program w n (λ none. absurd (holds_none_is n v.holders mutex none
           (ap (λ (hs : List (Option ℕ)). slice_get hs mutex) (holders_after at moving_hart) ∙ get-set_same w.holders mutex (Some n) None free))))

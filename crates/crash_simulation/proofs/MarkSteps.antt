@@ -7,7 +7,9 @@ use Rattle.crash_simulation.proofs.Common.{flow_now, seen_effects, IsElsewhere, 
 use Rattle.crash_simulation.proofs.Common.{Ends, IsOnFragment, on_machine, Stage, stage_after, stage_sees, run_at, fragments_see_all, AbstractRun, kept_of}
 use Rattle.crash_simulation.proofs.Common.{now_of, is_bound, nothing_released, MayStore, goes, IsDoneBy, begins_step, is_begun, most_ahead, beyond, System}
 use Rattle.crash_simulation.proofs.Common.{IsSystem, flat_of, places_of, ThreadGhost, on_fragment, InPhase, ThreadInv, ExitInv, AnswersGuarded, IsFlushed}
-use Rattle.crash_simulation.proofs.Common.{IsInAttempt, ◌<◌, steps_begun, counted_own}
+use Rattle.crash_simulation.proofs.Common.{IsInAttempt, ◌<◌, steps_begun, counted_own, IsOnItsWay, last_store_after}
+use Rattle.crash_simulation.proofs.Common.{last_position, word_at, Log, log_stays, IsWordOf, recorded_in}
+use Rattle.crash_simulation.proofs.CompletedEffects.{step_last}
 use Rattle.crash_simulation.proofs.Common.{is_fence, finishes_fence, stores_point, Step, boundary_fences, AreFencesCounted}
 use Rattle.flow_graph.proofs.Public.{moved}
 use Rattle.flow_graph.specs.Actions as a
@@ -96,7 +98,7 @@ module _ {y : System} {s : IsSystem y} {w : World} {h : ℕ} (site : AtNode y s 
 
   module _ (o : Passing) where
     abbrev pub new : ThreadGhost
-    new = going c o.cleans (most_ahead y n)
+    new = going c o.cleans (most_ahead y n) (λ word. last_store_after y.runs.program w (Step n) n word (c.last_stores word))
 
     open o.passes.on.on use {hart as later_hart}
 
@@ -116,6 +118,22 @@ module _ {y : System} {s : IsSystem y} {w : World} {h : ℕ} (site : AtNode y s 
     pub state : now_of y next ≡ after_effect (now_of y b) n graph_thread effect
     state = same_Some _ _ (sym o.leads ∙ graph_step_is site o.mark.doing)
 
+    -- an element that was on its way is so still
+    abbrev pub flushed_on : (u i : ℕ) → ((p : ℕ) → IsSince (history_at b.config.memory u i) p → IsSince (history_at o.memory u i) p) → ComesNow passage →
+        IsFlushed y w b code c t.log.hart u i → IsFlushed y v next code new later_hart u i
+    flushed_on u i since comes f =
+        let longer = done_longer b.config n in
+        flushed_still passage (still_reached passage site.core.goes.cleans (reaches_on site o.mark o.passes)) u i since f (λ un. absurd (true≢false un))
+        (omega (arith, longer)) (omega (arith, longer)) comes
+
+    -- a word that was stored for its record is so still
+    pub passed_record : (word position : ℕ) → IsWordOf w.log n c.new word → position ≤ last_position (word_at w.words word) →
+        IsOnItsWay y v next code new later_hart word position
+    passed_record word position among low =
+        let sound = site.hart.stands.machine.sound in
+        recorded_in (subst (λ (l : Log). IsWordOf l n c.new word) (sym (log_stays y.runs.program w (Step n) sound)) among)
+        (step_last y.runs.program w n sound word position low)
+
     -- what the thread had stored before is on its way still
     pub flushed_passed : (u i : ℕ) → (WritesAt b.config.kept n (attempt_of b.config n).done u i → ⊥) →
         ((p : ℕ) → IsSince (history_at b.config.memory u i) p → IsSince (history_at o.memory u i) p) → ComesNow passage →
@@ -123,8 +141,7 @@ module _ {y : System} {s : IsSystem y} {w : World} {h : ℕ} (site : AtNode y s 
     flushed_passed u i none since comes writes =
         let longer = done_longer b.config n in
         elim (wrote b.config.kept n (attempt_of b.config n).done u i (subst (λ (k : ℕ). Writes b.config.kept n k u i) longer writes)) [
-          | inl old ↦ flushed_still passage (still_reached passage site.core.goes.cleans (reaches_on site o.mark o.passes)) u i since (t.stored.flushed u i old)
-              (λ un. absurd (true≢false un)) (omega (arith, longer)) (omega (arith, longer)) comes
+          | inl old ↦ flushed_on u i since comes (t.stored.flushed u i old)
           | inr at_once ↦ absurd (none at_once)
         ]
 
@@ -147,7 +164,8 @@ module _ {y : System} {s : IsSystem y} {w : World} {h : ℕ} (site : AtNode y s 
     fits_by a.Ends plain ends = record { goes = goes_next; cleans = ends refl; execution = refl }
 
     module _ (answers : AnswersGuarded y (now next.config) n (environment site o.mark.doing))
-        (flushed : (u i : ℕ) → Writes next.config.kept n (attempt_of next.config n).done u i → IsFlushed y v next code new later_hart u i) where
+        (flushed : (u i : ℕ) → Writes next.config.kept n (attempt_of next.config n).done u i → IsFlushed y v next code new later_hart u i)
+        (last : (word position : ℕ) → new.last_stores word ≡ Some position → IsOnItsWay y v next code new later_hart word position) where
       abbrev FragmentTo : Stage → List Effect → Type 0
       FragmentTo stage effects =
           IsOnFragment y.plan code.thread places (on_machine y.runs.program v n (environment site o.mark.doing)) stage o.mark.mark.steps effects
@@ -185,11 +203,11 @@ module _ {y : System} {s : IsSystem y} {w : World} {h : ℕ} (site : AtNode y s 
           let log = log_going site o.elsewhere later_hart o.passes.on.on.here in
           record {
             log = log;
-            records = records_going site next refl o.cleans (most_ahead y n) log;
+            records = records_going site next refl o.cleans (most_ahead y n) new.last_stores log;
             graph_thread = then_thread;
             walks = ap (λ (z : FlowState). slice_get z.graph_threads n) state ∙ graph_thread_is (now_of y b) n graph_thread effect t.walks;
             phase = phase;
-            stored = record { cleans = o.clean; flushed = flushed };
+            stored = record { cleans = o.clean; flushed = flushed; last = last };
           }
 
       pub passed_step : StepOf site.hart n
@@ -215,6 +233,7 @@ module _ {y : System} {s : IsSystem y} {w : World} {h : ℕ} (site : AtNode y s 
               (stores_point y.runs.program w (Step n) n) rest []) (sym site.core.goes.goes.rest)
               (same_fences (boundary_fences y.plan.log) _ _ [] (o.passes.fence ∙ o.no_fence) (o.passes.point ∙ o.no_point));
           nears = begins_step o.is_step;
+          last = λ word. refl;
         };
         released =
             nothing_released (holders_stay_none y.runs.program w n (holders_stay site o.mark o.passes)) (sym (none_leaving c site.core.goes.goes.giving));

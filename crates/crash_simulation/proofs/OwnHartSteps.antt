@@ -1,5 +1,5 @@
 -- A step of a thread's own hart: what the machine is to know of it.
-use Rattle.crash_simulation.proofs.Common.{◌≡◌, ℕ, ℤ, List, sym, ◌∙◌, ap, arith, subst, true, Some, None}
+use Rattle.crash_simulation.proofs.Common.{◌≡◌, ℕ, ℤ, List, sym, ◌∙◌, ap, arith, subst, true, Option, Some, None}
 use Rattle.crash_simulation.proofs.Common.{refl, [], length, slice_get, nat_tests, Step, Log, Hart}
 use Rattle.crash_simulation.proofs.Common.{World, after_event, Effect, Run, Seen, GraphThread, FlowState, seen_by, boundary_effects, IsOnSide, Attempt, Memory}
 use Rattle.crash_simulation.proofs.Common.{memory_in, recorded_by, IsRecoverable, LogInv, IsSideOf, IsElsewhere, config_of, IsNext, steps_keep, ends_committed}
@@ -10,9 +10,18 @@ use Rattle.crash_simulation.proofs.PendingFlushes.{Leads, Passage}
 use Rattle.crash_simulation.proofs.LocksAfterStep.{GoneOn, LockStep, locked_after}
 use Rattle.crash_simulation.proofs.ThreadViews.{describes_over, log_at, records_over}
 
--- the ghost state of a thread on its way between boundaries, with these cleans and steps ahead
-abbrev pub going : ThreadGhost → (cleans : List Effect) → (before_mark : ℕ) → ThreadGhost
-going c cleans before_mark = record { old = c.old; new = c.new; rest = []; committed = true; cleans = cleans; giving = None; before_mark = before_mark }
+-- the ghost state of a thread on its way between boundaries, with these cleans and steps ahead, and where its hart has stored last
+abbrev pub going : ThreadGhost → (cleans : List Effect) → (before_mark : ℕ) → (last_stores : ℕ → Option ℕ) → ThreadGhost
+going c cleans before_mark last_stores = record {
+  old = c.old;
+  new = c.new;
+  rest = [];
+  committed = true;
+  cleans = cleans;
+  giving = None;
+  before_mark = before_mark;
+  last_stores = last_stores;
+}
 
 -- ---- The step
 
@@ -138,8 +147,9 @@ module _ {y : System} {s : IsSystem y} {w : World} {h : ℕ} (site : AtNode y s 
       (subst (λ (rest : List Effect). LogInv n c.old c.new w rest) site.core.goes.goes.rest t.log) elsewhere)
 
   -- what it says then, where the same is kept
-  pub records_going : (next : AbstractRun y) → kept_of y next ≡ kept_of y b → (cleans : List Effect) (before_mark : ℕ) (log : LogInv n c.old c.new v []) →
-      HasRecords y next code (going c cleans before_mark) (committed v n (going c cleans before_mark) log.hart)
-  records_going next same cleans before_mark log =
-      records_over y next code (going c cleans before_mark) refl refl (ends_committed v.log n c.old c.new (config_of v log.hart []) log.log refl)
+  pub records_going : (next : AbstractRun y) → kept_of y next ≡ kept_of y b → (cleans : List Effect) (before_mark : ℕ) (last_stores : ℕ → Option ℕ)
+      (log : LogInv n c.old c.new v []) →
+      HasRecords y next code (going c cleans before_mark last_stores) (committed v n (going c cleans before_mark last_stores) log.hart)
+  records_going next same cleans before_mark last_stores log =
+      records_over y next code (going c cleans before_mark last_stores) refl refl (ends_committed v.log n c.old c.new (config_of v log.hart []) log.log refl)
       (subst (λ (kept : FlowState). Describes y.plan code kept c.new) (sym same) (describes_over y b code c t.records site.core.goes.goes.committed))

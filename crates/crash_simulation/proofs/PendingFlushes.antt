@@ -4,6 +4,7 @@ use Rattle.crash_simulation.proofs.Common.{PersistsThrough, word_at, Hart, World
 use Rattle.crash_simulation.proofs.Common.{attempt_of, history_at, Memory, IsSince, Execution, memory_in, IsBeforeBoundary, RespectsAll, line_of, CleansSince}
 use Rattle.crash_simulation.proofs.Common.{stores_are_cleaned, fences_ahead, is_clean, Code, AbstractRun, kept_of, attempts_of, abstract_next, System, IsSystem}
 use Rattle.crash_simulation.proofs.Common.{flat_of, shapes_of, places_of, ThreadGhost, is_reached, is_ahead, IsFlushed, IsComing, HasStored}
+use Rattle.crash_simulation.proofs.Common.{Some, last_position, IsWordOf, IsOnItsWay, durable_there, comes_with, recorded_in}
 use Rattle.region_attempts.specs.PendingCleans.{Cleans}
 use Rattle.crash_simulation.proofs.StatesMatchSource.{cuts, resumed}
 use Rattle.crash_simulation.proofs.Elements.{word_of_element, position_durable}
@@ -91,7 +92,7 @@ module _ {y : System} {code : Code y.plan} (p : Passage y code) where
 
   module _ (still : StillComes) (u e : ℕ) (since : (p : ℕ) → IsSince (history_at b.config.memory u e) p → IsSince (history_at memory u e) p)
       (f : IsFlushed y w b code c old u e) (fenced : new.committed ≡ false → fences_ahead new.rest < 2 → f.position ≤ (history_at memory u e).durable) where
-    pub flushed_still : before ≤ now → now ≤ suc before → ComesNow → IsFlushed y v run_after code new after u e
+    abbrev pub flushed_still : before ≤ now → now ≤ suc before → ComesNow → IsFlushed y v run_after code new after u e
     flushed_still grows at_most comes = record {
       before = f.before;
       within = omega (arith, f.within, grows);
@@ -113,14 +114,43 @@ module _ {y : System} {code : Code y.plan} (p : Passage y code) where
             let cleans_it = subst (λ (n : ℕ). Cleans (attempts_of y b) number n line) same (as_before cleaned.last line cleaned.at) in
             comes (omega (arith, cleaned.within, past, at_most)) line cleans_it u e f.position refl
 
+  -- one where the attempt is as long as it was
+  module _ (still : StillComes) (since : (u e q : ℕ) → IsSince (history_at b.config.memory u e) q → IsSince (history_at memory u e) q)
+      (fenced : (u e : ℕ) (f : IsFlushed y w b code c old u e) → new.committed ≡ false → fences_ahead new.rest < 2 →
+      f.position ≤ (history_at memory u e).durable) (same : now ≡ before) where
+    abbrev flushed_same : (u e : ℕ) → IsFlushed y w b code c old u e → IsFlushed y v run_after code new after u e
+    flushed_same u e f =
+        flushed_still still u e (since u e) f (fenced u e f) (omega (arith, same)) (omega (arith, same)) (λ longer. absurd (omega (arith, longer, same)))
+
+  -- what is durable stays so
+  abbrev pub StaysDurable : Type 0
+  StaysDurable = (j position : ℕ) → position ≤ (word_at w.words j).durable → position ≤ (word_at v.words j).durable
+
+  -- what is last then was last before, or is stored for its record
+  abbrev pub LastsAre : Type 0
+  LastsAre = (word position : ℕ) → new.last_stores word ≡ Some position →
+      (c.last_stores word ≡ Some position) ⊎ (IsWordOf v.log number new.new word × (position ≤ last_position (word_at v.words word)))
+
+  -- what was stored for its record is so still, or durable
+  abbrev pub RecordsStay : Type 0
+  RecordsStay = (word position : ℕ) → IsWordOf w.log number c.new word → position ≤ last_position (word_at w.words word) →
+      IsOnItsWay y v run_after code new after word position
+
   -- all that it has stored, where the attempt is as long as it was
   pub stored_same : ((effect : Effect) → Contains new.cleans effect → is_clean effect ≡ true) → StillComes →
       ((u e q : ℕ) → IsSince (history_at b.config.memory u e) q → IsSince (history_at memory u e) q) →
       ((u e : ℕ) (f : IsFlushed y w b code c old u e) → new.committed ≡ false → fences_ahead new.rest < 2 →
-      f.position ≤ (history_at memory u e).durable) → now ≡ before → HasStored y w b code c old → HasStored y v run_after code new after
-  stored_same clean still since fenced same stored = record {
+      f.position ≤ (history_at memory u e).durable) → now ≡ before → StaysDurable → LastsAre → RecordsStay → HasStored y w b code c old →
+      HasStored y v run_after code new after
+  stored_same clean still since fenced same durable lasts records stored = record {
     cleans = clean;
-    flushed = λ u e writes.
-        let f = stored.flushed u e (subst (λ (k : ℕ). Writes b.config.kept number k u e) same writes) in
-        flushed_still still u e (since u e) f (fenced u e f) (omega (arith, same)) (omega (arith, same)) (λ longer. absurd (omega (arith, longer, same)));
+    flushed = λ u e writes. flushed_same still since fenced same u e (stored.flushed u e (subst (λ (k : ℕ). Writes b.config.kept number k u e) same writes));
+    last = λ word position is. elim (lasts word position is) [
+      | inl was ↦ elim (stored.last word position was) [
+        | durable_there low ↦ durable_there (durable word position low)
+        | comes_with u e f at low ↦ comes_with u e (flushed_same still since fenced same u e f) at low
+        | recorded_in among low ↦ records word position among low
+      ]
+      | inr own ↦ recorded_in own.0 own.1
+    ];
   }

@@ -6,15 +6,18 @@ pub use Rattle.crash_simulation.proofs.AccountsBeforeCommit.{none_more, released
 pub use Rattle.crash_simulation.proofs.BoundaryPassages.{ArePassed, FollowsBegun, chosen_here, chosen_none, going_ahead, passages_ahead, points_ahead}
 pub use Rattle.crash_simulation.proofs.ChosenNodes.{store_there}
 pub use Rattle.crash_simulation.proofs.DisjointStores.{elsewhere, next_store}
+pub use Rattle.crash_simulation.proofs.Elements.{word_durable}
 pub use Rattle.crash_simulation.proofs.FragmentSteps.{Made, bounds_first, cleans_first, held_up_stores_none, made_by, no_effect}
 pub use Rattle.crash_simulation.proofs.LifeAccounts.{begins_at, earlier_after, from_after, kept_after, lives_are, schedule_is}
 pub use Rattle.crash_simulation.proofs.LifeBeginnings.{first_life, first_origin, life_stands, pending_free, row_of, start_simulates}
 pub use Rattle.crash_simulation.proofs.LifeStarts.{HasBegun, has_begun}
 pub use Rattle.crash_simulation.proofs.LastReleases.{and_none, at_most_one}
 pub use Rattle.crash_simulation.proofs.LocalNodeSteps.{mark as quietly_mark}
+pub use Rattle.crash_simulation.proofs.LoadFreeEnvironment.{placed}
 pub use Rattle.crash_simulation.proofs.LockCallSteps.{fragment, lock}
 pub use Rattle.crash_simulation.proofs.LocksAfterStep.{runs_held}
 pub use Rattle.crash_simulation.proofs.LocksAtCalls.{locks_it}
+pub use Rattle.crash_simulation.proofs.LogWords.{point_settled}
 pub use Rattle.crash_simulation.proofs.LongestAttempts.{AreFurthest}
 pub use Rattle.crash_simulation.proofs.NoStuckHarts.{takes_move}
 pub use Rattle.crash_simulation.proofs.NodeCodeSteps.{by_node, found}

@@ -23,6 +23,9 @@ use Rattle.crash_simulation.proofs.ThreadsOfMachines.{each_placed}
 use Rattle.crash_simulation.proofs.LoadFreeEnvironment.{bare, bare_agrees, bare_meets, bare_answers, bare_reads, placed, none_ahead, resettled}
 use Rattle.crash_simulation.proofs.Boundaries.{IsAddress, stands_in, store_is, store_ahead, BoundaryIsRecoverable, boundaries_begin}
 use Rattle.crash_simulation.proofs.PendingFlushes.{Passage, stored_same, still_reached, reaches_same}
+use Rattle.log_states.proofs.Public.{ends as log_ends}
+use Rattle.crash_simulation.proofs.Common.{config_of, durable_there}
+use Rattle.crash_simulation.proofs.LogWords.{recorded_settled}
 use Rattle.crash_simulation.proofs.StatesMatchSource.{resumed, now_orderly, now_good}
 use Rattle.crash_simulation.proofs.StepsAfterMarks.{weight_is, core_less, less_soon}
 use Rattle.crash_simulation.proofs.LastReleases.{none_leaving}
@@ -294,7 +297,11 @@ module _ {y : System} {s : IsSystem y} {w : World} {h : ℕ} (site : Site y s w 
       stored = stored_same passage none_clean
           (still_reached passage (left_empty c.cleans c.rest (none_left at)) (reaches_same passage refl (ap (λ (x : Hart). x.queue) same_hart)))
           (λ u e position since. since)
-          (λ u e f un few. let two = boundaries_fence boundary side resume registers in absurd (omega (arith, two, few))) refl t.stored;
+          (λ u e f un few. let two = boundaries_fence boundary side resume registers in absurd (omega (arith, two, few))) refl
+          (λ j position low. low) (λ word position is. inl is)
+          (λ word position among low.
+          let settled = recorded_settled w.log n c.new w.words (log_ends w.log n c.old c.new (config_of w t.log.hart c.rest) t.log.log no_rest) word among in
+          durable_there (omega (arith, low, settled))) t.stored;
     }
 
     caught : HasCommittedLog y w b code ghost thread
@@ -307,7 +314,7 @@ module _ {y : System} {s : IsSystem y} {w : World} {h : ℕ} (site : Site y s w 
         ∙ sym (ap (λ (done : Bool). not done && not (list_any is_store c.rest)) no_boundary)
 
     says : SaysSame ghost c
-    says = record { bound = unbound; leaving = none_leaving ghost refl ∙ sym (none_leaving c no_giving); giving = sym no_giving; ahead = refl }
+    says = record { bound = unbound; leaving = none_leaving ghost refl ∙ sym (none_leaving c no_giving); giving = sym no_giving; ahead = refl; last = refl }
 
     -- ---- The machine, where that is the thread's ghost state
 
@@ -374,7 +381,7 @@ module _ {y : System} {s : IsSystem y} {w : World} {h : ℕ} (site : Site y s w 
     site = site;
     similar = record {
       abstract = refl;
-      same = λ n. record { bound = refl; leaving = refl; giving = refl; ahead = refl };
+      same = λ n. record { bound = refl; leaving = refl; giving = refl; ahead = refl; last = refl };
       fences = λ n. same_fences (boundary_fences y.plan.log) false false (site.stands.ghosts n).rest refl refl;
     };
     ready = ready;
@@ -393,7 +400,11 @@ module _ {y : System} {s : IsSystem y} {w : World} {h : ℕ} (site : Site y s w 
     | inl chosen ↦
         let k = (all site a chosen i h site.below).2 refl in
         let anew : Site y s w h = record { stands = begun site a chosen i; below = site.below } in
-        record { site = anew; similar = record { abstract = refl; same = says_same site a chosen i; fences = fences_begin site a chosen i }; ready = keeps_at anew k.0 k.1 }
+        record {
+          site = anew;
+          similar = record { abstract = refl; same = says_same site a chosen i; fences = fences_begin site a chosen i };
+          ready = keeps_at anew k.0 k.1;
+        }
     | inr plain ↦ as_it_is (plain_ready site a plain)
   ]
 

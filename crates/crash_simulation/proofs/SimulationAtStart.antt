@@ -37,9 +37,18 @@ pub record BeginsAgain (y : System) (s : IsSystem y) (v : World) (abstract : Abs
   pub gathers : AreGathering v records
   pub describe : AllDescribe y.plan s.codes (kept_of y abstract) records
 
--- a thread that has begun nothing since the boundary of its record
+-- a thread that has begun nothing since the boundary of its record, where a run begins
 abbrev pub resting_ghost : System → Record → (n : ℕ) → ThreadGhost
-resting_ghost y r n = record { old = nothing_recorded; new = r; rest = []; committed = true; cleans = []; giving = None; before_mark = most_ahead y n }
+resting_ghost y r n = record {
+  old = nothing_recorded;
+  new = r;
+  rest = [];
+  committed = true;
+  cleans = [];
+  giving = None;
+  before_mark = most_ahead y n;
+  last_stores = λ word. None;
+}
 
 pub resting_thread : (y : System) (v : World) (b : AbstractRun y) (code : Code y.plan) (r : Record) (n : ℕ) (graph_thread : GraphThread)
     (log : LogInv code.thread.number nothing_recorded r v []) → Describes y.plan code (kept_of y b) r → (attempt_of b.config code.thread.number).done ≡ 0 →
@@ -52,7 +61,7 @@ resting_thread y v b code r n graph_thread log describes none walks phase = reco
   graph_thread = graph_thread;
   walks = walks;
   phase = phase;
-  stored = none_stored y v b code (resting_ghost y r n) log.hart none none_clean;
+  stored = none_stored y v b code (resting_ghost y r n) log.hart none none_clean (λ word position is. absurd (none-some position is));
 }
 
 module _ (y : System) (s : IsSystem y) (v : World) (abstract : AbstractRun y) (records : ℕ → Record) (again : BeginsAgain y s v abstract records) where

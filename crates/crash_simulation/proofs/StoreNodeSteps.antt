@@ -9,7 +9,10 @@ use Rattle.crash_simulation.proofs.Common.{memory_in, since_stays, memory_stored
 use Rattle.crash_simulation.proofs.Common.{variables_are_apart, stores_to_variable, is_clean, kind_at, IsAnswered, source_of, MayDo, cleans_of, MarksPass}
 use Rattle.crash_simulation.proofs.Common.{same_or_other, AbstractRun, kept_of, now_of, attempts_of, MayStore, element, System, IsSystem, flat_of, shapes_of}
 use Rattle.crash_simulation.proofs.Common.{places_of, ThreadGhost, is_ahead, IsFlushed, IsComing}
-use Rattle.crash_simulation.proofs.Common.{is_fence}
+use Rattle.crash_simulation.proofs.Common.{is_fence, ◌+◌, ◌≤◌, ◌==◌, eqb-true, eq-eqb, cond-true, length-append, has_moved, last_position, word_at, Step}
+use Rattle.crash_simulation.proofs.Common.{History, positions_meet, IsOnItsWay, durable_there, comes_with, recorded_in}
+use Rattle.machine_model.specs.Schedule.{completes}
+use Rattle.crash_simulation.specs.StorePositions.{stores_into}
 use Rattle.region_attempts.specs.PendingCleans.{Cleans}
 use Rattle.ido_base.specs.Words as words
 use Rattle.rv64_isa.specs.Rows as r
@@ -20,13 +23,14 @@ use Rattle.crash_simulation.proofs.MarksAtNodes.{Doing, MarkIn, AtMark, Passes, 
 use Rattle.crash_simulation.proofs.LoadFreeEnvironment.{bare_answers, bare_reads}
 use Rattle.crash_simulation.proofs.StatesMatchSource.{resumed, now_orderly, now_good}
 use Rattle.crash_simulation.proofs.Boundaries.{store_is}
-use Rattle.crash_simulation.proofs.Elements.{room, variables_end, element_below}
+use Rattle.crash_simulation.proofs.Elements.{room, there_or_none, variables_end, element_below, word_of_element}
 use Rattle.crash_simulation.proofs.NodeEffects.{ahead_is}
 use Rattle.crash_simulation.proofs.NodeEnvironments.{element_access}
 use Rattle.crash_simulation.proofs.OwnHartSteps.{view, StepOf, AtNode}
 use Rattle.crash_simulation.proofs.PendingFlushes.{as_before}
 use Rattle.crash_simulation.proofs.WriteBackSteps.{mark_step}
-use Rattle.crash_simulation.proofs.MarkSteps.{flushed_passed, passed_step, is_next}
+use Rattle.crash_simulation.proofs.CompletedEffects.{last_unless, next_completed, step_durable}
+use Rattle.crash_simulation.proofs.MarkSteps.{flushed_on, flushed_passed, passed_record, passed_step, is_next}
 use Rattle.crash_simulation.proofs.MarkSteps as passing
 
 -- memory takes of a value the bytes that a store writes
@@ -215,7 +219,7 @@ module _ {y : System} {s : IsSystem y} {w : World} {h : ℕ} (site : AtNode y s 
         (subst (λ (z : Bool). Contains (if z then r.Cleans address ∷ [] else []) (r.Cleans address)) (sym here) (0, omega arith, refl))
         ((λ j. line_of (shapes_of y) ((sym is.0) j) ((sym is.1) j)) ∙ cleaned.in_line ∙ sym in_line)
 
-    newest : IsFlushed y v next code new p.on.on.hart store.variable store.element
+    abbrev newest : IsFlushed y v next code new p.on.on.hart store.variable store.element
     newest = record {
       before = (attempt_of b.config n).done;
       within = omega (arith, done_longer b.config n);
@@ -235,20 +239,82 @@ module _ {y : System} {s : IsSystem y} {w : World} {h : ℕ} (site : AtNode y s 
       fenced = λ un. absurd (true≢false un);
     }
 
+    -- one that was on its way before, if it isn't the one that is stored
+    abbrev older : (u i : ℕ) → IsOther store.variable store.element u i → IsFlushed y w b code c t.log.hart u i →
+        IsFlushed y v next code new p.on.on.hart u i
+    older u i apart f =
+        flushed_on site passed u i (λ position since.
+        since_stays b.config.memory memory store.variable store.element store.number stored u i position apart since)
+        (λ now line cleaned. comes_now line cleaned) f
+
     flushed : (u i : ℕ) → Writes next.config.kept n (attempt_of next.config n).done u i → IsFlushed y v next code new p.on.on.hart u i
     flushed u i writes = elim (same_or_other u store.variable) [
       | inl same ↦ elim (same_or_other i store.element) [
         | inl same_element ↦ coe 0 1 (j. IsFlushed y v next code new p.on.on.hart ((sym same) j) ((sym same_element) j)) newest
-        | inr apart ↦ older (λ also same_element. apart same_element)
+        | inr apart ↦ before (λ also same_element. apart same_element)
       ]
-      | inr apart ↦ older (λ same same_element. apart same)
+      | inr apart ↦ before (λ same same_element. apart same)
     ]
       where
-        older : IsOther store.variable store.element u i → IsFlushed y v next code new p.on.on.hart u i
-        older apart = flushed_passed site passed u i (λ at_once. let same = written u i at_once in apart same.0 same.1)
+        before : IsOther store.variable store.element u i → IsFlushed y v next code new p.on.on.hart u i
+        before apart = flushed_passed site passed u i (λ at_once. let same = written u i at_once in apart same.0 same.1)
             (λ position since. since_stays b.config.memory memory store.variable store.element store.number stored u i position apart since)
             (λ now line cleaned. comes_now line cleaned) writes
 
+    -- ---- Last stores
+
+    abbrev word_stored : ℕ
+    word_stored = word_of_element y s store.variable store.element
+
+    -- the store is made into that word, and into no other
+    completes_is : (word : ℕ) → completes (stores_into word) y.runs.program w (Step n) n ≡ (word_stored == word)
+    completes_is word =
+        next_completed (stores_into word) y.runs.program w n mark.at.on.hart p.forward.effect (is_next site at_mark p) (ap has_moved p.forward.reply)
+        ∙ ap (stores_into word) effect_is
+
+    -- the position of what it appends
+    newest_last : last_position (word_at v.words word_stored) ≤ newest.position
+    newest_last =
+        let long : length (history_at memory store.variable store.element).values
+        ≡ length (history_at b.config.memory store.variable store.element).values + 1 =
+        ap (λ (h : History). length h.values) stored.own
+        ∙ length-append (history_at b.config.memory store.variable store.element).values (store.number ∷ []) in
+        elim (there_or_none y s store.variable store.element) [
+          | inl there ↦
+              let meet = positions_meet (places_of y) v.words store.variable store.element there.kind
+              (byte_number (variable_at (shapes_of y) store.variable store.element)) there.at in
+              omega (arith, long, meet.long)
+          | inr none ↦
+              let one : length (history_at memory store.variable store.element).values ≡ 1 = ap (λ (h : History). length h.values) (none v.words) in
+              let other : length (history_at b.config.memory store.variable store.element).values ≡ 1 =
+              ap (λ (m : Memory). length (history_at m store.variable store.element).values) (sym site.hart.stands.memory)
+              ∙ ap (λ (h : History). length h.values) (none w.words) in
+              absurd (omega (arith, one, long, other))
+        ]
+
+    last : (word position : ℕ) → new.last_stores word ≡ Some position → IsOnItsWay y v next code new p.on.on.hart word position
+    last word position is = by (word_stored == word) refl
+      where
+        by : (b : Bool) → (word_stored == word) ≡ b → IsOnItsWay y v next code new p.on.on.hart word position
+        by true same =
+            let at : word_stored ≡ word = eqb-true word_stored word same in
+            let made : Some (last_position (word_at v.words word)) ≡ Some position =
+            sym (cond-true (completes (stores_into word) y.runs.program w (Step n) n) (Some (last_position (word_at v.words word))) (c.last_stores word)
+            (completes_is word ∙ same)) ∙ is in
+            let position_is : last_position (word_at v.words word_stored) ≡ position =
+            ap (λ (k : ℕ). last_position (word_at v.words k)) at ∙ same_Some _ _ made in
+            comes_with store.variable store.element newest at (omega (arith, position_is, newest_last))
+        by false other =
+            let was : c.last_stores word ≡ Some position =
+            last_unless y.runs.program w n word (c.last_stores word) n (completes_is word ∙ other) ∙ is in
+            elim (t.stored.last word position was) [
+              | durable_there low ↦ durable_there (step_durable y.runs.program w n site.hart.stands.machine.sound word position low)
+              | comes_with u i f at low ↦
+                  comes_with u i (older u i (λ same equal. true≢false (sym (eq-eqb word_stored word
+                  ((λ j. word_of_element y s ((sym same) j) ((sym equal) j)) ∙ at)) ∙ other)) f) at low
+              | recorded_in among low ↦ passed_record site passed word position among low
+            ]
+
   pub store_step : MarksPass → StepOf site.hart n
   store_step marks = mark_step site at_mark marks
-      (λ p. passed_step site (passed p) (bare_answers y s w h site.hart.below (now (next p).config)) (flushed p))
+      (λ p. passed_step site (passed p) (bare_answers y s w h site.hart.below (now (next p).config)) (flushed p) (last p))

@@ -8,8 +8,11 @@ use Rattle.crash_simulation.proofs.Common.{same_other, inner_along, writes_at_sa
 use Rattle.crash_simulation.proofs.Common.{last_stays, unlocked_is_last, SettlesThere, flow_solo, node_after, GraphThreadsSettle, own_step, graph_follows}
 use Rattle.crash_simulation.proofs.Common.{step_lockstep, matched_after, inner_runs, graph_settles, Record, ExitPoint, Code, Describes, others_describe}
 use Rattle.crash_simulation.proofs.Common.{AbstractRun, kept_of, now_of, System, IsSystem, flat_of, ThreadGhost, on_fragment, InPhase, ThreadInv, IsBounded}
-use Rattle.crash_simulation.proofs.Common.{ExitInv, committed, InFragment, record_kept}
+use Rattle.crash_simulation.proofs.Common.{ExitInv, committed, InFragment, record_kept, Memory, memory_in, history_at, places_of, word_at, log_facts}
+use Rattle.crash_simulation.proofs.Common.{config_of, durable_there, comes_with, recorded_in}
+use Rattle.crash_simulation.proofs.LogWords.{committed_settled}
 use Rattle.source_machine.proofs.Public.{solo as solo_law}
+use Rattle.crash_simulation.proofs.Elements.{word_durable}
 use Rattle.crash_simulation.proofs.StatesMatchSource.{resumed, kept_matches, as_source}
 use Rattle.crash_simulation.proofs.PendingReleases.{IsAtBoundary, at_keeps, at_took, at_gives, under_way, bounded_of}
 use Rattle.crash_simulation.proofs.KeptThreads.{moves_nowhere, IsKept, IsLeftAlone, stands_kept}
@@ -223,8 +226,24 @@ module _ (y : System) (w : World) (b next : AbstractRun y) (code : Code y.plan) 
       ExitInv y next.config n (taken c) graph_thread exit
   own_fits graph_thread exit h2 h3 = grind (arith, at_gives, at_keeps, at_took, bounded)
 
-  pub own_stands : (t : ThreadInv y w b code c) → c.committed ≡ false → committed w n c t.log.hart ≡ true → ThreadInv y w next code (taken c)
-  own_stands t not_yet sooner =
+  -- what it has stored last is durable
+  last_durable : IsSystem y → memory_in (places_of y) w.words ≡ b.config.memory → (t : ThreadInv y w b code c) → c.committed ≡ false →
+      committed w n c t.log.hart ≡ true → (word position : ℕ) → c.last_stores word ≡ Some position → position ≤ (word_at w.words word).durable
+  last_durable s memory t not_yet sooner word position is = elim (t.stored.last word position is) [
+    | durable_there low ↦ low
+    | comes_with v e f at low ↦
+        let fenced = f.fenced not_yet (log_facts.bank_before_point.fenced w.log n c.old c.new (config_of w t.log.hart c.rest) t.log.log sooner) in
+        let durable =
+        word_durable y s w.words v e f.position (subst (λ (m : Memory). f.position ≤ (history_at m v e).durable) (sym memory) fenced) in
+        subst (λ (k : ℕ). position ≤ (word_at w.words k).durable) at (omega (arith, low, durable))
+    | recorded_in among low ↦
+        let settled = committed_settled w.log n c.old c.new (config_of w t.log.hart c.rest) t.log.log sooner word among in
+        omega (arith, low, settled)
+  ]
+
+  pub own_stands : IsSystem y → memory_in (places_of y) w.words ≡ b.config.memory → (t : ThreadInv y w b code c) → c.committed ≡ false →
+      committed w n c t.log.hart ≡ true → ThreadInv y w next code (taken c)
+  own_stands s memory t not_yet sooner =
       let u = under_way y w b code c t not_yet in
       record {
         log = t.log;
@@ -238,7 +257,7 @@ module _ (y : System) (w : World) (b next : AbstractRun y) (code : Code y.plan) 
         walks = ap (λ (z : FlowState). slice_get z.graph_threads n) up.states ∙ t.walks;
         phase = subst (λ (p : Phase). InPhase y w next code (taken c) t.log.hart t.graph_thread p) (sym u.runs)
             (on_fragment u.to u.steps (fragment_stays t.log.hart t.graph_thread u.to u.steps u.on (own_fits t.graph_thread u.to u.exit u.on.fits)));
-        stored = none_stored y w next code (taken c) t.log.hart up.done t.stored.cleans;
+        stored = none_stored y w next code (taken c) t.log.hart up.done t.stored.cleans (last_durable s memory t not_yet sooner);
       }
 
 -- ---- Another thread
@@ -252,6 +271,7 @@ left_as_it_is y w b code c = record {
   fragments = λ z answers stage steps o. o;
   cores = λ at seen side registers o. o;
   reach = λ queue j position r. r;
+  longer = λ j position low. low;
 }
 
 module _ (y : System) (s : IsSystem y) (b : AbstractRun y) (k : ℕ) (may : MaySettle y b k) (code : Code y.plan) (apart : code.thread.number ≢ k)

@@ -4,7 +4,8 @@ use Rattle.crash_simulation.proofs.Common.{cond-true, cond-false, none-some, Ste
 use Rattle.crash_simulation.proofs.Common.{Effect, Slot, log_stays, get-set_same, GraphThread, contains_none, Config, attempt_of, steps_begun, HasUnlocked}
 use Rattle.crash_simulation.proofs.Common.{HasLocked, LogInv, Record, config_of, MovesTo, is_committed, Moves, LogIs, keeps, stays_committed, is_clean}
 use Rattle.crash_simulation.proofs.Common.{ExitPoint, Arrives, Gives, Ends, Keeps, Asks, Took, Code, Describes, same_there, AbstractRun, kept_of, now_of}
-use Rattle.crash_simulation.proofs.Common.{System, Rests, ThreadGhost, GoesClean, IsBounded, ExitInv, HasStored, IsInAttempt, HasRecords}
+use Rattle.crash_simulation.proofs.Common.{System, Rests, ThreadGhost, GoesClean, IsBounded, ExitInv, HasStored, IsInAttempt, HasRecords, durable_there}
+use Rattle.crash_simulation.proofs.Common.{◌≤◌, word_at}
 
 -- ---- Its log
 
@@ -67,7 +68,7 @@ moves_alone program w u h old new sound here does words harts queue = record {
 -- its ghost state, where a boundary begins that leads to the record
 abbrev pub begins_with : ThreadGhost → Record → (rest : List Effect) → (giving : Option ℕ) → (before_mark : ℕ) → ThreadGhost
 begins_with c r rest giving before_mark =
-    record { old = c.new; new = r; rest = rest; committed = false; cleans = []; giving = giving; before_mark = before_mark }
+    record { old = c.new; new = r; rest = rest; committed = false; cleans = []; giving = giving; before_mark = before_mark; last_stores = c.last_stores }
 
 module _ (y : System) (b : AbstractRun y) (code : Code y.plan) (c : ThreadGhost) {sooner : Bool} where
   -- where no boundary is under way, and nothing is to be given back
@@ -122,8 +123,12 @@ module _ (y : System) {m next : Config} {thread : ℕ} {c new : ThreadGhost} (st
 pub none_clean : (effect : Effect) → Contains [] effect → is_clean effect ≡ true
 none_clean effect has = absurd (contains_none effect has)
 
--- nothing, where its attempt has made no step
+-- nothing that isn't durable, where its attempt has made no step
 pub none_stored : (y : System) (w : World) (b : AbstractRun y) (code : Code y.plan) (c : ThreadGhost) (hart : Hart) →
     (attempt_of b.config code.thread.number).done ≡ 0 → ((effect : Effect) → Contains c.cleans effect → is_clean effect ≡ true) →
-    HasStored y w b code c hart
-none_stored y w b code c hart none clean = record { cleans = clean; flushed = λ v e writes. absurd (omega (arith, writes.within, none)) }
+    ((word position : ℕ) → c.last_stores word ≡ Some position → position ≤ (word_at w.words word).durable) → HasStored y w b code c hart
+none_stored y w b code c hart none clean last = record {
+  cleans = clean;
+  flushed = λ v e writes. absurd (omega (arith, writes.within, none));
+  last = λ word position is. durable_there (last word position is);
+}

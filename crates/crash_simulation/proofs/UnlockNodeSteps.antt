@@ -12,6 +12,9 @@ use Rattle.crash_simulation.proofs.Common.{fragments_see_all, past_unlock, unloc
 use Rattle.crash_simulation.proofs.Common.{goes, abstract_next, begins_step, begins_unlock, most_ahead, System, IsSystem, flat_of, places_of, ThreadGhost}
 use Rattle.crash_simulation.proofs.Common.{on_fragment, InPhase, ThreadInv, IsFlushed}
 use Rattle.crash_simulation.proofs.Common.{is_fence, boundary_fences, AreFencesCounted, boundary_stores}
+use Rattle.crash_simulation.proofs.Common.{◌⊎◌, inl, ⊎_elim, last_position, word_at, Log, log_stays, Step}
+use Rattle.crash_simulation.proofs.Common.{last_store_after, IsWordOf, durable_there}
+use Rattle.log_states.proofs.Public.{ends}
 use Rattle.flow_graph.proofs.Public.{moved}
 use Rattle.flow_graph.specs.Actions as a
 use Rattle.crash_simulation.proofs.StatesMatchSource.{resumed, now_orderly, now_good}
@@ -28,9 +31,11 @@ use Rattle.crash_simulation.proofs.LocksAfterStep.{GoneOn, held_unlocked}
 use Rattle.crash_simulation.proofs.NodeEffects.{source_steps, unlocks_it, unlock_locks_none}
 use Rattle.crash_simulation.proofs.ConfigAfterBegin.{alone_unlocks}
 use Rattle.crash_simulation.proofs.UncommittedSteps.{leads_on}
-use Rattle.crash_simulation.proofs.PendingFlushes.{Passage, stored_same, still_reached, fence_settles}
+use Rattle.crash_simulation.proofs.PendingFlushes.{LastsAre, Passage, stored_same, still_reached, fence_settles}
 use Rattle.crash_simulation.proofs.FragmentSteps.{Made, no_effect, no_point, cleans_first, bounds_first, made_by, words_same, log_may, log_memory}
 use Rattle.crash_simulation.proofs.BoundaryFences.{begins_fences, joined_fences, next_fences}
+use Rattle.crash_simulation.proofs.CompletedEffects.{last_by, last_store_is, step_durable, stores_none}
+use Rattle.crash_simulation.proofs.LogWords.{recorded_settled, stored_for}
 use Rattle.crash_simulation.proofs.WriteBackSteps.{mark_step, not_bound}
 
 -- a node that gives a lock back
@@ -172,6 +177,8 @@ module _ {y : System} {s : IsSystem y} {w : World} {h : ℕ} (site : AtNode y s 
       point : is_point_store w.log n p.forward.effect ≡ not (list_any is_store p.later)
       fenced : fences_ahead p.later < 2 → p.forward.effect ≡ Fences
       fences : FencesCounted p.later
+      lasts : (word position : ℕ) → last_store_after y.runs.program w (Step n) n word (c.last_stores word) ≡ Some position →
+          (c.last_stores word ≡ Some position) ⊎ (IsWordOf w.log n new_record word × (position ≤ last_position (word_at v.words word)))
 
     same_words : v.words ≡ p.forward.contents.words
     same_words = ap (λ (z : World). z.words) p.forward.world
@@ -208,8 +215,17 @@ module _ {y : System} {s : IsSystem y} {w : World} {h : ℕ} (site : AtNode y s 
           subst (λ (reply : Reply). MovesTo n w hart (p.forward.effect ∷ p.later) v (if has_moved reply then p.later else p.forward.effect ∷ p.later))
           p.forward.reply (own_steps_move y.runs.program w n hart p.forward.effect p.later next_is inside.1)
 
-      first_by : is_point_store w.log n p.forward.effect ≡ not (list_any is_store p.later) → (fences_ahead p.later < 2 → p.forward.effect ≡ Fences) → IsFirst
-      first_by point fenced = record {
+      lasts_by : (f : Effect) → p.forward.effect ≡ f → is_store f ≡ false → (word position : ℕ) →
+          last_store_after y.runs.program w (Step n) n word (c.last_stores word) ≡ Some position →
+          (c.last_stores word ≡ Some position) ⊎ (IsWordOf w.log n new_record word × (position ≤ last_position (word_at v.words word)))
+      lasts_by f made none word position is =
+          inl (last_by y.runs.program w n word (c.last_stores word) hart p.forward.effect next_is
+          (stores_none word p.forward.effect (ap is_store made ∙ none)) ∙ is)
+
+      first_by : is_point_store w.log n p.forward.effect ≡ not (list_any is_store p.later) → (fences_ahead p.later < 2 → p.forward.effect ≡ Fences) →
+          ((word position : ℕ) → last_store_after y.runs.program w (Step n) n word (c.last_stores word) ≡ Some position →
+          (c.last_stores word ≡ Some position) ⊎ (IsWordOf w.log n new_record word × (position ≤ last_position (word_at v.words word)))) → IsFirst
+      first_by point fenced lasts = record {
         log = log_moved log_found moves;
         may = log_may y b w n site.hart.stands.machine.log p.forward.effect inside.0;
         memory = ap (memory_in (places_of y)) same_words
@@ -223,6 +239,7 @@ module _ {y : System} {s : IsSystem y} {w : World} {h : ℕ} (site : AtNode y s 
             (is_point_store w.log n p.forward.effect) es p.later) (sym rest)
             (next_fences (boundary_fences y.plan.log) _ _ p.forward.effect p.later refl (λ stores. point)
             (λ none. no_point w.log n p.forward.effect none)));
+        lasts = lasts;
       }
 
       point_kept : (f : Effect) → p.forward.effect ≡ f → is_store f ≡ false → is_point_store w.log n p.forward.effect ≡ not (list_any is_store p.later)
@@ -235,8 +252,18 @@ module _ {y : System} {s : IsSystem y} {w : World} {h : ℕ} (site : AtNode y s 
       first_of (StoresWord i value below is) = first_by
           (ap (is_point_store w.log n) is ∙ point_store_is_last w.log n c.new new_record (config_of w hart (p.forward.effect ∷ p.later))
           (log_of w.log n + 8 * i) 8 value p.later log_as (ap (λ (x : Effect). x ∷ p.later) is)) (unfenced _ is none_more)
-      first_of (CleansLine i below is) = first_by (point_kept _ is refl) (unfenced _ is none_more)
-      first_of (PassesFence is) = first_by (point_kept _ is refl) (λ few. is)
+          (λ word position last.
+          let own =
+          last_store_is y.runs.program w n word (c.last_stores word) hart (log_of w.log n + 8 * i) 8 value position
+          (subst (IsNext y.runs.program w n hart) is next_is) last in
+          ⊎_elim (λ was. inl was) (λ made. inr (
+            subst (IsWordOf w.log n new_record) (sym made.0)
+                (stored_for w.log n c.new new_record (config_of w hart (p.forward.effect ∷ p.later)) log_as (log_of w.log n + 8 * i) 8 value p.later
+                (ap (λ (x : Effect). x ∷ p.later) is) log_as.stage),
+            made.1,
+          )) own)
+      first_of (CleansLine i below is) = first_by (point_kept _ is refl) (unfenced _ is none_more) (lasts_by _ is refl)
+      first_of (PassesFence is) = first_by (point_kept _ is refl) (λ few. is) (lasts_by _ is refl)
 
     by_made : Made [] effects_all p.later p.forward.effect → IsFirst
     by_made (no_effect none unfenced same) = record {
@@ -251,6 +278,8 @@ module _ {y : System} {s : IsSystem y} {w : World} {h : ℕ} (site : AtNode y s 
       fences =
           begins_fences (boundary_fences y.plan.log) _ _ p.later unfenced (no_point w.log n p.forward.effect none) (ap fences_ahead same ∙ two_fences)
           (ap (list_any is_store) same ∙ some_stores);
+      lasts = λ word position is.
+          inl (last_by y.runs.program w n word (c.last_stores word) hart p.forward.effect next_is (stores_none word p.forward.effect none) ∙ is);
     }
     by_made (cleans_first address others is cleans later) = absurd (not_done (Cleans address) others cleans)
     by_made (bounds_first none rest) = first_of rest (inside rest).0
@@ -261,7 +290,9 @@ module _ {y : System} {s : IsSystem y} {w : World} {h : ℕ} (site : AtNode y s 
     -- ---- The thread
 
     abbrev new : ThreadGhost
-    new = begins_with c new_record p.later (Some mutex) (most_ahead y n)
+    new = record (begins_with c new_record p.later (Some mutex) (most_ahead y n)) {
+      last_stores = λ word. last_store_after y.runs.program w (Step n) n word (c.last_stores word);
+    }
 
     abbrev side_next : ℕ
     side_next = side_after boundary site.core.side
@@ -300,6 +331,12 @@ module _ {y : System} {s : IsSystem y} {w : World} {h : ℕ} (site : AtNode y s 
         (λ j position reached. fences_settle y.runs.program w n (run_at y.plan code.thread places mark.at) p.forward fence j position
         (subst (λ (x : Hart). PersistsThrough w.words x.queue j position) (sym (old_hart site at_mark)) reached)) u i f)
 
+    lasts_then : LastsAre step
+    lasts_then word position is =
+        ⊎_elim (λ was. inl was)
+        (λ own. inr (subst (λ (l : Log). IsWordOf l n new_record word) (sym (log_stays y.runs.program w (Step n) site.hart.stands.machine.sound)) own.0, own.1))
+        (first.lasts word position is)
+
     abbrev own : ThreadInv y v next code new
     own = record {
       log = log_at first.log p.on.on.hart p.on.on.here;
@@ -308,7 +345,12 @@ module _ {y : System} {s : IsSystem y} {w : World} {h : ℕ} (site : AtNode y s 
       walks = walks_next;
       phase = phase;
       stored = stored_same step none_clean (still_reached step site.core.goes.cleans (reaches_on site at_mark p)) (λ u i position since. since)
-          (λ u i f un few. settled u i f (first.fenced few)) refl t.stored;
+          (λ u i f un few. settled u i f (first.fenced few)) refl
+          (step_durable y.runs.program w n site.hart.stands.machine.sound) lasts_then
+          (λ word position among low.
+          let settled =
+          recorded_settled w.log n c.new w.words (ends w.log n c.old c.new (config_of w t.log.hart c.rest) t.log.log site.core.goes.goes.rest) word among in
+          durable_there (step_durable y.runs.program w n site.hart.stands.machine.sound word position (omega (arith, low, settled)))) t.stored;
     }
 
     -- ---- Locks
@@ -341,6 +383,7 @@ module _ {y : System} {s : IsSystem y} {w : World} {h : ℕ} (site : AtNode y s 
             coe 0 1 (i. AreFencesCounted (boundary_fences y.plan.log) ((sym p.fence) i) ((sym p.point) i) ((sym site.core.goes.goes.rest) i) p.later)
             first.fences;
         nears = begins_step refl;
+        last = λ word. refl;
       };
       released = nothing_released (holders_stay_none y.runs.program w n still_held) (sym (none_leaving c site.core.goes.goes.giving));
     }

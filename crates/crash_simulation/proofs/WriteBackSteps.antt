@@ -8,6 +8,8 @@ use Rattle.crash_simulation.proofs.Common.{Effect, finishes_fence, stores_point,
 use Rattle.ido_base.specs.Growth.{ArePersisted}
 use Rattle.recovery_semantics.specs.ElementHistories as histories
 use Rattle.crash_simulation.proofs.BoundaryFences.{same_fences}
+use Rattle.crash_simulation.proofs.CompletedEffects.{last_by, step_durable, step_last, stores_none}
+use Rattle.crash_simulation.proofs.Common.{inl, log_stays, Log, IsWordOf, recorded_in}
 use Rattle.crash_simulation.proofs.LastReleases.{holders_stay_none, none_leaving, and_none}
 use Rattle.crash_simulation.proofs.PendingFlushes.{Passage, run_after, still_reached, stored_same}
 use Rattle.crash_simulation.proofs.ThreadViews.{none_clean}
@@ -47,7 +49,7 @@ module _ {y : System} {s : IsSystem y} {w : World} {h : ℕ} (site : AtNode y s 
       subst (λ (m : Memory). histories.ArePersisted m memory) memory_is (memory_persisted (places_of y) w.words v.words persisted)
 
   abbrev new : ThreadGhost
-  new = going c [] (c.before_mark - 1)
+  new = going c [] (c.before_mark - 1) c.last_stores
 
   abbrev passage : Passage y code
   passage = step_to site.hart v b.config.uncommitted memory b.config.attempts (leads_on y b _ (persists memory memory_persists) refl tt) new later_hart
@@ -76,12 +78,15 @@ module _ {y : System} {s : IsSystem y} {w : World} {h : ℕ} (site : AtNode y s 
       let log = log_going site (stores_nothing y.runs.program w n n hart d.effect is_next no_store) later_hart stays.still.on.here in
       record {
         log = log;
-        records = records_going site next refl [] (c.before_mark - 1) log;
+        records = records_going site next refl [] (c.before_mark - 1) c.last_stores log;
         graph_thread = graph_thread;
         walks = t.walks;
         phase = phase;
         stored = stored_same passage none_clean (still_reached passage site.core.goes.cleans reaches)
-            (λ u i p since. since_is_persisted b.config.memory memory u i p memory_persists since) (λ u i f un. absurd (true≢false un)) refl t.stored;
+            (λ u i p since. since_is_persisted b.config.memory memory u i p memory_persists since) (λ u i f un. absurd (true≢false un)) refl
+            (step_durable y.runs.program w n sound) (λ word position is. inl is)
+            (λ word position among low. recorded_in (subst (λ (l : Log). IsWordOf l n c.new word) (sym (log_stays y.runs.program w (Step n) sound)) among)
+            (step_last y.runs.program w n sound word position low)) t.stored;
       }
 
   stays_step : StepOf site.hart n
@@ -104,6 +109,7 @@ module _ {y : System} {s : IsSystem y} {w : World} {h : ℕ} (site : AtNode y s 
           (stores_point y.runs.program w (Step n) n) rest []) (sym goes_here.rest)
           (same_fences (boundary_fences y.plan.log) _ _ [] stays.counts.1 stays.counts.0);
       nears = is_nearer nearer.0;
+      last = λ word. last_by y.runs.program w n word (c.last_stores word) hart d.effect is_next (stores_none word d.effect no_store);
     };
     released = nothing_released (holders_stay_none y.runs.program w n holders_stay) (sym (none_leaving c goes_here.giving));
   }

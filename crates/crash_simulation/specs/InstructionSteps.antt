@@ -16,6 +16,7 @@ use Rattle.machine_model.specs.declared.phase.Phase.TheVariants.{Run, Done, Ende
 use Rattle.rv64_isa.specs.Rows.{Effect, Stores}
 use Rattle.machine_model.specs.Machine.{Hart, World, after_event, happens}
 use Rattle.machine_model.specs.Schedule.{passes_mark, stores_point, finishes_fence, releases_last}
+use Rattle.crash_simulation.specs.StorePositions.{last_store_after}
 use Rattle.flow_graph.specs.Nodes.{Lock, Node}
 use Rattle.flow_graph.specs.Liveness.{NodeAt}
 use Rattle.hart_runs.specs.Calls.{IsInPhase}
@@ -109,6 +110,8 @@ pub record IsCounted (y : System) (w : World) (b : AbstractRun y) (h : ℕ) (beg
   pub fences : AreFencesCounted (boundary_fences y.plan.log) (finishes_fence y.runs.program w (Step h) h) (stores_point y.runs.program w (Step h) h)
       old.rest new.rest
   pub nears : Nears y w h begun old.before_mark new.before_mark
+  -- a store is the last one then
+  pub last : (word : ℕ) → new.last_stores word ≡ last_store_after y.runs.program w (Step h) h word (old.last_stores word)
 
 -- ---- What it releases
 
@@ -164,12 +167,14 @@ module _ {y : System} {s : IsSystem y} {w : World} {h : ℕ} (site : Site y s w 
     at_core : AtCoreNow → ((is : Node) (lock : LockName) (next : ℕ) → NodeAt y.plan.graph thread_of.graph_thread.at is → is.action ≢ Lock lock next) →
         IsReadyToStep
 
--- whether the thread's steps are bound, whether it leaves a section, what it has to give back, and how near its hart is to the next mark, are the same
+-- whether the thread's steps are bound, whether it leaves a section, what it has to give back, how near its hart is to the next mark, and where that has
+-- stored last, are the same
 pub record SaysSame (new old : ThreadGhost) : Type 0 where
   pub bound : is_bound new ≡ is_bound old
   pub leaving : is_leaving new ≡ is_leaving old
   pub giving : new.giving ≡ old.giving
   pub ahead : new.before_mark ≡ old.before_mark
+  pub last : new.last_stores ≡ old.last_stores
 
 -- two machines simulate the same abstract run, and the same is said of each thread
 pub record AreSimilar (y : System) (s : IsSystem y) {w v : World} (old : Simulates y s w) (new : Simulates y s v) : Type 0 where

@@ -1,3 +1,4 @@
+pub mod StorePositions
 pub mod Systems
 pub mod AbstractRuns
 pub mod StepsToMark

@@ -1,7 +1,10 @@
 -- Where a thread of a compiled program is, by its graph thread and its ghost state.
 use Rattle.std.specs.Prelude.{◌≡◌, ℕ, ◌+◌, ◌/◌, ◌<◌, ◌≤◌, List, [], ◌++◌, length, slice_get, Contains, Option, Some, None, Bool, true, false, if◌then◌else◌}
-use Rattle.ido_base.specs.Layout.{variable_at, byte_number}
+use Rattle.ido_base.specs.Layout.{variable_at, byte_number, word_number}
 use Rattle.ido_base.specs.Growth.{PersistsThrough}
+use Rattle.ido_base.specs.Words.{last_position, word_at}
+use Rattle.log_schemes.specs.declared.log.Log.{Log}
+use Rattle.log_schemes.specs.Layout.{point_at}
 use Rattle.ido_ints.specs.Kinds.{bytes_of}
 use Rattle.c_tree.specs.Programs.{Variable}
 use Rattle.c_tree.specs.WellFormed.{elements_in}
@@ -10,7 +13,7 @@ use Rattle.source_machine.specs.Discipline.{Guards}
 use Rattle.machine_model.specs.declared.phase.Phase.{Phase}
 use Rattle.machine_model.specs.declared.phase.Phase.TheVariants.{Take, Wait, Resume, Run, Done, Ended}
 use Rattle.rv64_isa.specs.Rows.{Effect, Cleans}
-use Rattle.machine_model.specs.Machine.{Hart, World}
+use Rattle.machine_model.specs.Machine.{Hart, World, bank_of}
 use Rattle.code_runs.specs.CodeTraces.{MarkedEnvironment, seen_effects}
 use Rattle.flow_graph.specs.Actions.{GraphThread, seen_by}
 use Rattle.flow_graph.specs.IdempotentCuts.{IsChosen}
@@ -20,7 +23,7 @@ use Rattle.recovery_semantics.specs.Configs.{Config, now, attempt_of}
 use Rattle.recovery_semantics.specs.Events.{IsGoing, steps_begun}
 use Rattle.recovery_semantics.specs.Laws.{HasLocked, HasUnlocked, LastUnlocks}
 use Rattle.region_attempts.specs.PendingCleans.{line_of, CleansSince}
-use Rattle.log_states.specs.Logs.{Record, IsSideOf}
+use Rattle.log_states.specs.Logs.{Record, IsSideOf, bank_word, slots_of}
 use Rattle.log_states.specs.Stages.{fences_ahead, is_committed}
 use Rattle.log_states.specs.Machines.{config_of}
 use Rattle.log_states.specs.LogInvariant.{LogInv}
@@ -45,6 +48,8 @@ pub record ThreadGhost : Type 0 where
   pub giving : Option ℕ
   -- its hart makes so many steps at most before the next mark
   pub before_mark : ℕ
+  -- of each word the position of the hart's last store into it since the last start or crash, if there was one
+  pub last_stores : (word : ℕ) → Option ℕ
 
 -- what the kept state has of the thread's log
 abbrev pub record_kept : ThreadGhost → Record
@@ -130,6 +135,11 @@ pub record HasRecords (y : System) (b : AbstractRun y) (code : Code y.plan) (c :
 abbrev pub committed : World → (thread : ℕ) → ThreadGhost → Hart → Bool
 committed w thread c hart = is_committed w.log thread (config_of w hart c.rest)
 
+-- a word of the thread's log that the record needs: the point's, or a slot's
+pub data IsWordOf (log : Log) (thread : ℕ) (r : Record) (word : ℕ) : Type 0 where
+  of_point : word ≡ word_number (point_at log thread) → IsWordOf log thread r word
+  of_slot : (slot : ℕ) → Contains (slots_of log r) slot → word ≡ bank_word log thread (bank_of r.point) slot → IsWordOf log thread r word
+
 -- the queue reaches the position of the element, or a clean of its line is ahead
 pub data IsComing (y : System) (w : World) (cleans : List Effect) (hart : Hart) (v e position : ℕ) : Type 0 where
   is_reached : PersistsThrough w.words hart.queue (byte_number (variable_at (shapes_of y) v e) / 8) position → IsComing y w cleans hart v e position
@@ -187,10 +197,18 @@ module _ (y : System) (w : World) (b : AbstractRun y) (code : Code y.plan) (c : 
         IsComing y w c.cleans hart v e position
     pub fenced : c.committed ≡ false → fences_ahead c.rest < 2 → position ≤ (history_at b.config.memory v e).durable
 
-  -- what it has still to clean are lines, and what it has stored is on its way
+  -- the word is durable as of the position, or will be: with an element that the attempt has stored there, or with the last record
+  pub data IsOnItsWay (hart : Hart) (word position : ℕ) : Type 0 where
+    durable_there : position ≤ (word_at w.words word).durable → IsOnItsWay hart word position
+    comes_with : (v e : ℕ) (f : IsFlushed hart v e) → byte_number (variable_at (shapes_of y) v e) / 8 ≡ word → position ≤ f.position →
+        IsOnItsWay hart word position
+    recorded_in : IsWordOf w.log code.thread.number c.new word → position ≤ last_position (word_at w.words word) → IsOnItsWay hart word position
+
+  -- what it has still to clean are lines, and what it has stored is on its way, each last store too
   pub record HasStored (hart : Hart) : Type 0 where
     pub cleans : (effect : Effect) → Contains c.cleans effect → is_clean effect ≡ true
     pub flushed : (v e : ℕ) → Writes b.config.kept code.thread.number (attempt_of b.config code.thread.number).done v e → IsFlushed hart v e
+    pub last : (word position : ℕ) → c.last_stores word ≡ Some position → IsOnItsWay hart word position
 
   -- ---- All of it: its log in memory and what that says, the code ahead, and what it has stored
 

@@ -13,7 +13,6 @@ use Rattle.log_states.proofs.Numbers.{same_bank, slot_not_point}
 use Rattle.log_states.proofs.Words.{durable_is}
 use Rattle.log_states.proofs.UnstoredLogStays.{bank_below, has_point, slot_in_bank}
 use Rattle.log_states.proofs.BoundaryCommits.{point_is, committed_after_fence, left}
-use Rattle.log_states.proofs.FencesMakeDurable.{fences_settle}
 use Rattle.log_states.proofs.RecoveredRecords.{left_is_record, left_locks, record_is_resumed, crashes_resume}
 
 -- ---- Bank before point
@@ -76,7 +75,7 @@ locks_are_left log thread old new m l =
 
 pub log_facts : LogFacts
 log_facts = record {
-  bank_before_point = record { bank = points_find_bank; fenced = committed_after_fence; stored = fences_settle };
+  bank_before_point = record { bank = points_find_bank; fenced = committed_after_fence };
   bank_kept = bank_kept;
   registers_resumed = record { between = record_is_resumed; crashed = crashes_resume };
   record_follows_locks = record { point = point_is; locks = locks_are_left };

@@ -1,5 +1,5 @@
 -- What a bank keeps of a record, each slot with the one value, and what the machine reads of it.
-use Rattle.std.proofs.Common.{◌≡◌, ◌≢◌, ◌⊎◌, inl, inr, ℕ, ◌+◌, ◌*◌, ◌^◌, ◌<◌, List, [], ◌∷◌, ◌++◌, map, refl, ap, arith, sym, ◌∙◌, subst, true}
+use Rattle.std.proofs.Common.{◌≡◌, ◌⊎◌, inl, inr, ℕ, ◌*◌, List, [], ◌∷◌, map, refl, ap, arith, sym, ◌∙◌, subst, true}
 use Rattle.std.proofs.Common.{cond, Bool, false}
 use Rattle.std.specs.Prelude.{◌==◌}
 use Rattle.std.specs.List.{Contains}
@@ -12,7 +12,7 @@ use Rattle.log_schemes.specs.Schemes.{keeps_register, kept_locks, locks_read, re
 use Rattle.log_schemes.proofs.Public.{contains_none, contains_first, contains_later, contains_cases, locks_kept, scheme}
 use Rattle.ido_base.specs.Words.{Word}
 use Rattle.rv64_isa.specs.Rows.{read}
-use Rattle.machine_model.specs.Machine.{bank_of, durable_point, recorded, record_of, resumed_registers}
+use Rattle.machine_model.specs.Machine.{bank_of, durable_point, recorded}
 use Rattle.machine_model.proofs.Public.{resumed_count, resumed_read}
 use Rattle.log_states.specs.Logs.{Record, nothing_recorded, kept_in, kept_of, value_of, IsRecord}
 use Rattle.log_states.specs.BanksRead.{AllBanksAreRead}

@@ -8,7 +8,7 @@ mod Heads
 mod BoundaryStores
 mod BoundaryCleansAndFences
 mod EventsKeepLog
-mod FencesMakeDurable
+mod BoundaryFences
 mod BoundaryStarts
 mod RecoveredRecords
 mod Machines

@@ -1,6 +1,5 @@
 -- A log between two sections, from which another life may begin.
-use Rattle.std.proofs.Common.{◌≡◌, ℕ, List, [], ◌∷◌, sym, ◌∙◌, subst, refl}
-use Rattle.std.specs.Prelude.{Some}
+use Rattle.std.proofs.Common.{◌≡◌, ℕ, [], ◌∷◌, sym, ◌∙◌, subst, refl}
 use Rattle.log_schemes.specs.declared.log.Log.{Log}
 use Rattle.log_states.specs.Logs.{Record, nothing_recorded, IsDurable, IsRecorded, point_in}
 use Rattle.log_states.specs.Stages.{LogConfig, LogIs, Stage, Writing, Written, Pointed, PointQueued, Over}

@@ -5,7 +5,7 @@ pub use Rattle.log_states.proofs.BoundaryEffectsInLog.{boundaries_stay_in}
 pub use Rattle.log_states.proofs.BoundaryStarts.{kept_are_keepable, point_says, points_end, side_follows}
 pub use Rattle.log_states.proofs.EventsKeepLog.{ends, keeps}
 pub use Rattle.log_states.proofs.FactsByName.{log_facts}
-pub use Rattle.log_states.proofs.FencesMakeDurable.{boundaries_fence}
+pub use Rattle.log_states.proofs.BoundaryFences.{boundaries_fence}
 pub use Rattle.log_states.proofs.Heads.{address_of, not_done}
 pub use Rattle.log_schemes.proofs.Public.{contains_cases, contains_first, contains_later, contains_none}
 pub use Rattle.log_states.proofs.LivePoints.{live_is}

@@ -1,10 +1,10 @@
 -- What holds of a log at each moment of a boundary, between boundaries, and after a crash.
-use Rattle.std.specs.Prelude.{◌≡◌, ◌≢◌, ◌⊎◌, ℕ, ◌+◌, ◌*◌, ◌/◌, ◌%◌, ◌^◌, ◌<◌, ◌≤◌, List, [], length, replicate, ◌∷◌, true, false, not, nat_le, ◌==◌}
+use Rattle.std.specs.Prelude.{◌≡◌, ◌≢◌, ◌⊎◌, ℕ, ◌+◌, ◌*◌, ◌/◌, ◌%◌, ◌^◌, ◌<◌, List, [], length, replicate, ◌∷◌, true, false, not, nat_le, ◌==◌}
 use Rattle.std.specs.Prelude.{if◌then◌else◌}
 use Rattle.std.specs.List.{Contains, list_any}
 use Rattle.log_schemes.specs.declared.log.Log.{Log}
-use Rattle.ido_base.specs.Words.{Word, Entry, word_at, last_position, stored, crashed}
-use Rattle.ido_base.specs.Growth.{Stable, AreEntries, PersistsThrough}
+use Rattle.ido_base.specs.Words.{Word, Entry, last_position, stored, crashed}
+use Rattle.ido_base.specs.Growth.{Stable, AreEntries}
 use Rattle.ido_base.specs.Layout.{variables_base, variable_lines, line_bytes, byte_number}
 use Rattle.log_schemes.specs.Layout.{log_words, point_at}
 use Rattle.rv64_isa.specs.declared.object.Slot.{Slot}
@@ -17,7 +17,7 @@ use Rattle.log_states.specs.Logs.{Record, nothing_recorded, side_of, IsSideOf, I
 use Rattle.log_schemes.specs.SchemeFacts.{AreLoggable, slot_index}
 use Rattle.log_states.specs.Logs.{bank_word, point_in, HasLog, IsUnstored, IsDurable, IsRecorded}
 use Rattle.log_states.specs.BanksRead.{HasKept}
-use Rattle.log_states.specs.Stages.{LogConfig, Moves, LogSteps, LogIs, fences_ahead, is_store, is_committed, left_by_crash}
+use Rattle.log_states.specs.Stages.{LogConfig, Moves, LogIs, fences_ahead, is_store, is_committed, left_by_crash}
 
 -- ---- Boundaries
 
@@ -146,25 +146,6 @@ PositionStays =
 abbrev pub CommittedWhere : Type 0
 CommittedWhere = (log : Log) (thread : ℕ) (old new : Record) (m : LogConfig) → LogIs log thread old new m → list_any is_store m.rest ≡ false →
     is_committed log thread m ≡ nat_le (last_position (point_in log m.words thread)) (point_in log m.words thread).durable
-
--- what is durable stays so
-abbrev pub DurableStays : Type 0
-DurableStays = (log : Log) (thread : ℕ) (m n : LogConfig) (word : ℕ) → Moves log thread m n → (word_at m.words word).durable ≤ (word_at n.words word).durable
-
--- the fence is still ahead, and the queue still reaches that far
-pub record AwaitsFence (m n : LogConfig) (word position : ℕ) : Type 0 where
-  pub fences : fences_ahead n.rest ≡ fences_ahead m.rest
-  pub reaches : PersistsThrough n.words n.queue word position
-
--- what the queue reaches it goes on to reach, up to a fence, after which that is durable
-abbrev pub ReachGoesOn : Type 0
-ReachGoesOn = (log : Log) (thread : ℕ) (m n : LogConfig) (word position : ℕ) → Moves log thread m n → PersistsThrough m.words m.queue word position →
-    AwaitsFence m n word position ⊎ (position ≤ (word_at n.words word).durable)
-
--- what the queue reaches is durable once one more fence is passed
-abbrev pub FencesSettle : Type 0
-FencesSettle = (log : Log) (thread : ℕ) (m n : LogConfig) (word position : ℕ) → LogSteps log thread m n → PersistsThrough m.words m.queue word position →
-    fences_ahead n.rest < fences_ahead m.rest → position ≤ (word_at n.words word).durable
 
 -- a boundary has two
 abbrev pub BoundariesFence : Type 0

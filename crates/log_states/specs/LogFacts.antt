@@ -8,7 +8,7 @@ use Rattle.rv64_isa.specs.Rows.{Effect, Stores}
 use Rattle.machine_model.specs.Machine.{durable_point, live_at, bank_of, record_of}
 use Rattle.log_states.specs.Logs.{Record, bank_word, IsInBank, HasBank}
 use Rattle.log_states.specs.Stages.{LogConfig, LogIs, left_by_crash}
-use Rattle.log_states.specs.Laws.{PointIs, CommittedAfterFence, FencesSettle, RecordIsResumed, CrashesResume}
+use Rattle.log_states.specs.Laws.{PointIs, CommittedAfterFence, RecordIsResumed, CrashesResume}
 
 -- ---- Bank before point
 
@@ -19,9 +19,8 @@ PointsFindBank = (log : Log) (thread : ℕ) (old new : Record) (m : LogConfig) (
 
 pub record BankBeforePoint : Type 0 where
   pub bank : PointsFindBank
-  -- a boundary whose point is durable has passed a fence, and all is durable that its hart had queued before that
+  -- a boundary whose point is durable has passed a fence, and a fence leaves nothing in its hart's queue
   pub fenced : CommittedAfterFence
-  pub stored : FencesSettle
 
 -- ---- Bank kept
 

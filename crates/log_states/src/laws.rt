@@ -1,7 +1,7 @@
 //! Laws of a thread's log, beside whatever the other threads do: nothing is computed here.
 ghost use Rattle.log_states.specs.Laws.{BoundaryBegins, BeginsUncommitted, BoundariesFence, CommittedAfterFence, CommittedWhere, CrashesKeep, CrashesLeave};
-ghost use Rattle.log_states.specs.Laws.{CrashesResume, DurableIsStable, DurableStays, EndsCommitted, BoundaryEnds, FencesSettle, Keeps, KeptAreKeepable};
-ghost use Rattle.log_states.specs.Laws.{LivePointIs, LogsAreApart, PointIs, PointSays, PointStoreIsLast, PositionStays, ReachGoesOn, RecordIsResumed};
+ghost use Rattle.log_states.specs.Laws.{CrashesResume, DurableIsStable, EndsCommitted, BoundaryEnds, Keeps, KeptAreKeepable};
+ghost use Rattle.log_states.specs.Laws.{LivePointIs, LogsAreApart, PointIs, PointSays, PointStoreIsLast, PositionStays, RecordIsResumed};
 ghost use Rattle.log_states.specs.Laws.{SideFollows};
 ghost use Rattle.log_states.specs.Laws.{Rests, SlotsAreIn, StartsEmpty, StaysCommitted, StaysRecorded, StoresElsewhere, VariablesAreApart};
 ghost use Rattle.log_states.specs.Machines.{BoundariesStayIn, CrashesCrash, EvictionsMove, LogEffectsGo, OwnStepsMove};
@@ -42,11 +42,8 @@ pub fn points_commit()
     ensures durable { CommittedWhere }
 {}
 
-/// What the hart's queue reaches is durable once one more fence is passed. A boundary has two, and is committed after the first.
-pub fn fences_settle()
-    ensures durable { DurableStays }
-    ensures reach { ReachGoesOn }
-    ensures settles { FencesSettle }
+/// A boundary has two fences, and is committed after the first.
+pub fn boundaries_fence()
     ensures two { BoundariesFence }
     ensures committed { CommittedAfterFence }
 {}

@@ -1,9 +1,10 @@
 -- When a hart is about to store its point, the bank that this names is durable, and its record is where the thread stands.
 use Rattle.std.proofs.Common.{◌≡◌, ◌⊎◌, inl, inr, refl, ℕ, ◌+◌, ◌*◌, ◌/◌, List, [], ◌∷◌, ap, sym, ◌∙◌, subst, Bool, true, false}
-use Rattle.std.proofs.Common.{arith}
+use Rattle.std.proofs.Common.{arith, ◌≤◌, Option, Some}
 use Rattle.std.proofs.lemmas.Bool.{eqb-true, true≢false}
 use Rattle.ido_base.specs.Layout.{byte_number, word_number}
 use Rattle.ido_base.specs.Locks.{has_lock}
+use Rattle.ido_base.specs.Words.{word_at}
 use Rattle.log_schemes.specs.declared.log.Log.{Log}
 use Rattle.log_schemes.specs.Layout.{log_of, point_at, slot_at}
 use Rattle.rv64_isa.specs.Rows.{Effect, Continues, Loads, Stores, Cleans, Fences, Calls}
@@ -23,7 +24,7 @@ use Rattle.log_states.proofs.Public.{address_of, boundaries_stay_in, log_facts, 
 use Rattle.hart_runs.specs.Calls.{IsInPhase}
 use Rattle.recovery_semantics.specs.Attempts.{Writes}
 use Rattle.recovery_semantics.specs.Configs.{attempt_of, now}
-use Rattle.recovery_semantics.specs.ElementHistories.{IsStable, history_at, number_at}
+use Rattle.recovery_semantics.specs.ElementHistories.{IsStable, Memory, history_at, number_at}
 use Rattle.recovery_semantics.specs.Events.{steps_begun}
 use Rattle.recovery_semantics.specs.VariableSpots.{memory_in}
 use Rattle.recovery_semantics.proofs.Public.{since_settles}
@@ -32,10 +33,11 @@ use Rattle.recovered_threads.proofs.Public.{locks_are_held}
 use Rattle.thread_runs.specs.Laws.{FragmentsGoOn, MarksPass}
 use Rattle.crash_simulation.specs.AbstractRuns.{AbstractRun, now_of}
 use Rattle.crash_simulation.specs.AccountRelation.{MachinesResume, SimulatesLives, first_beginning}
-use Rattle.crash_simulation.specs.InstructionSteps.{IsReadyToStep, Site}
+use Rattle.crash_simulation.specs.InstructionSteps.{CoresStep, FragmentsStep, IsReadyToStep, SimulatesReady, Site}
 use Rattle.crash_simulation.specs.SimulationRelation.{AreHeld, Simulates}
+use Rattle.crash_simulation.specs.ThreadGhosts.{IsWordOf, durable_there, comes_with, recorded_in}
 use Rattle.crash_simulation.specs.Systems.{System, IsSystem, flat_of, places_of}
-use Rattle.crash_simulation.proofs.Public.{as_source, now_orderly, resumed, runs_held, runs_ready, same_number, view}
+use Rattle.crash_simulation.proofs.Public.{as_source, now_orderly, resumed, runs_held, runs_ready, point_settled, same_number, view, word_durable}
 use Rattle.compiler_correctness.specs.Compilation.{HartHolds}
 use Rattle.compiler_correctness.specs.Laws.{translation_of}
 use Rattle.compiler_correctness.specs.Translations.{source, steps, world}
@@ -43,6 +45,7 @@ use Rattle.compiler_correctness.specs.Translations.{now as now_events}
 use Rattle.compiler_correctness.proofs.Public.{kept_is, now_is}
 use Rattle.resumption_facts.specs.BanksBeforePoints.{BanksComeBeforePoints, IsUnkeptStore}
 use Rattle.resumption_facts.proofs.BegunStores.{written_by}
+use Rattle.resumption_facts.proofs.LastStores.{stores_told}
 use Rattle.resumption_facts.proofs.OwnStores.{IsInBoundary, IsStored, in_boundary, own_store, to_variable}
 
 -- ---- The store of a point
@@ -140,7 +143,8 @@ module _ {y : System} {s : IsSystem y} {w : World} {h : ℕ} (site : Site y s w 
     pub bank : HasBank w.log n recorded w.words
     pub describes : Describes y.plan code (now_of y b) recorded
     pub taken : (lock : ℕ) → has_lock (locks_of recorded) lock ≡ true → HartHolds w n lock
-    pub stored : (v e : ℕ) → Writes b.config.kept n (steps_begun b.config n) v e →
+    pub stored : (word position : ℕ) → c.last_stores word ≡ Some position → position ≤ (word_at w.words word).durable
+    pub stable : (v e : ℕ) → Writes b.config.kept n (steps_begun b.config n) v e →
         IsStable (history_at b.config.memory v e) (number_at (now b.config) v e)
 
   module _ (address bytes value : ℕ) (there : word_number address ≡ word_number (point_at w.log n)) where
@@ -151,13 +155,33 @@ module _ {y : System} {s : IsSystem y} {w : World} {h : ℕ} (site : Site y s w 
       abbrev at : LogConfig
       at = config_of w i.hart (store ∷ i.later)
 
-      -- what the attempt has stored is durable once the first fence is passed
+      few : c.rest ≡ store ∷ i.later → fences_ahead c.rest ≡ 1
+      few rest = ap fences_ahead rest ∙ one_ahead w.log n i.old i.new at i.log address bytes value i.later refl there
+
+      -- what the hart has stored last is durable once the first fence is passed
+      last_durable : c.rest ≡ store ∷ i.later → i.new ≡ c.new → c.committed ≡ false → (word position : ℕ) → c.last_stores word ≡ Some position →
+          position ≤ (word_at w.words word).durable
+      last_durable rest new before word position is = elim (t.stored.last word position is) [
+        | durable_there low ↦ low
+        | comes_with v e f in_word low ↦
+            let fenced = f.fenced before (omega (arith, few rest)) in
+            let durable =
+            word_durable y s w.words v e f.position
+            (subst (λ (m : Memory). f.position ≤ (history_at m v e).durable) (sym site.stands.memory) fenced) in
+            subst (λ (k : ℕ). position ≤ (word_at w.words k).durable) in_word (omega (arith, low, durable))
+        | recorded_in among low ↦
+            let settled = point_settled w.log n i.old i.new at i.log address bytes value i.later refl there
+            (λ slot same. omega (arith, same, there, slot_in_log w.log n (bank_of i.new.point) slot)) word
+            (subst (λ (r : Record). IsWordOf w.log n r word) (sym new) among) in
+            omega (arith, low, settled)
+      ]
+
+      -- of the attempt's elements only the numbers of now can be left
       durable : c.rest ≡ store ∷ i.later → c.committed ≡ false → (v e : ℕ) → Writes b.config.kept n (attempt_of b.config n).done v e →
           IsStable (history_at b.config.memory v e) (number_at (now b.config) v e)
       durable rest before v e writes =
           let f = t.stored.flushed v e writes in
-          let few : fences_ahead c.rest ≡ 1 = ap fences_ahead rest ∙ one_ahead w.log n i.old i.new at i.log address bytes value i.later refl there in
-          since_settles (flat_of y) b.config n v e f.position (resumed y s b).resumed.invariant writes f.since (f.fenced before (omega (arith, few)))
+          since_settles (flat_of y) b.config n v e f.position (resumed y s b).resumed.invariant writes f.since (f.fenced before (omega (arith, few rest)))
 
       -- the boundary under way isn't committed, so that its record is where the thread stands now
       under_way : c.rest ≡ store ∷ i.later → i.new ≡ c.new → Finds store
@@ -174,7 +198,8 @@ module _ {y : System} {s : IsSystem y} {w : World} {h : ℕ} (site : Site y s w 
             describes = describes;
             taken = λ lock among.
                 held.holds lock n ((locks_are_held y.plan code (now_of y b) c.new s.plan (now_orderly y s b) describes lock).0 among);
-            stored = λ v e writes. durable rest before v e (written_by (flat_of y) b.config n (resumed y s b).resumed.invariant v e writes);
+            stored = last_durable rest new before;
+            stable = λ v e writes. durable rest before v e (written_by (flat_of y) b.config n (resumed y s b).resumed.invariant v e writes);
           }
 
       finds_by : ((c.rest ≡ store ∷ i.later) × (i.new ≡ c.new)) ⊎ (fences_ahead (store ∷ i.later) ≡ 2) → Finds store
@@ -194,20 +219,48 @@ module _ {y : System} {s : IsSystem y} {w : World} {h : ℕ} (site : Site y s w 
         (finds_in p.address p.bytes p.value p.there
         (own_store site hart p.address p.bytes p.value (subst (λ (e : Effect). IsNext y.runs.program w n hart e) p.is next) law marks held ready))
 
+-- ---- In a machine that simulates an abstract run
+
+module _ (y : System) (s : IsSystem y) (w : World) (stands : Simulates y s w) where
+  pub ready_now : (h : ℕ) (hart : Hart) (effect : Effect) → IsNext y.runs.program w h hart effect → SimulatesReady y s w h stands
+  ready_now h hart effect next =
+      runs_ready y s w h stands (record { hart = hart; here = next.here; phase_is = running_is hart.phase next.runs })
+
+  module _ (law : FragmentsGoOn) (marks : MarksPass) (h : ℕ) (hart : Hart) (effect : Effect) (next : IsNext y.runs.program w h hart effect)
+      (is : is_point_store w.log h effect ≡ true) where
+    abbrev site : Site y s w h
+    site = (ready_now h hart effect next).site
+
+    pub holds : AreHeld w site.stands.ghosts (now_of y site.stands.abstract)
+    holds =
+        let i : IsInPhase w h Run = record { hart = hart; here = next.here; phase_is = running_is hart.phase next.runs } in
+        let z = site.stands in
+        (runs_held y s w z.abstract z.ghosts h z.machine.log z.machine.sound i z.locks).1
+
+    pub finds_now : Finds site holds effect
+    finds_now =
+        finds site holds law marks hart effect (subst (λ (n : ℕ). IsNext y.runs.program w n hart effect) (sym (same_number site)) next)
+        (subst (λ (n : ℕ). is_point_store w.log n effect ≡ true) (sym (same_number site)) is) (ready_now h hart effect next).ready
+
+    -- what the hart has stored last is durable
+    pub stored_last : (word position : ℕ) → (stands.ghosts h).last_stores word ≡ Some position → position ≤ (word_at w.words word).durable
+    stored_last word position last =
+        finds_now.stored word position (ap (λ (m : ℕ → Option ℕ). m word) ((ready_now h hart effect next).similar.same h).last ∙ last)
+
 -- ---- After any events
 
 -- in the abstract run, of what the thread has stored by its begun steps
 abbrev StableOf : (y : System) → AbstractRun y → (thread v e : ℕ) → Type 0
 StableOf y b n v e = Writes b.config.kept n (steps_begun b.config n) v e → IsStable (history_at b.config.memory v e) (number_at (now b.config) v e)
 
-stored_at : (y : System) (s : IsSystem y) (events : List Event) →
+stable_at : (y : System) (s : IsSystem y) (events : List Event) →
     (resumes : SimulatesLives y s (first_beginning y) (world (translation_of y) events) (steps (translation_of y) events)
     (released_count y.runs.program (first_world y.runs) events)) →
     (b : AbstractRun y) → b ≡ resumes.is.stands.abstract → memory_in (places_of y) (world (translation_of y) events).words ≡ b.config.memory →
     (h v e : ℕ) → StableOf y b h v e → IsUnkeptStore (translation_of y) events h v e →
     IsStable (history_at (memory_in (places_of y) (world (translation_of y) events).words) v e)
     (number_at (source (translation_of y) (all_lives (now_events (translation_of y) events))) v e)
-stored_at y s events resumes b same memory h v e stable writes =
+stable_at y s events resumes b same memory h v e stable writes =
     let w = world (translation_of y) events in
     let account = steps (translation_of y) events in
     let kept : source (translation_of y) (schedules account) ≡ b.config.kept =
@@ -220,20 +273,17 @@ stored_at y s events resumes b same memory h v e stable writes =
     coe 0 1 (i. Writes (kept i) h (steps_of h (pending i)) v e) writes in
     coe 1 0 (i. IsStable (history_at (memory i) v e) (number_at (later i) v e)) (stable begun)
 
-pub banks_come_before_points : MachinesResume → FragmentsGoOn → MarksPass → BanksComeBeforePoints
-banks_come_before_points machines law marks y s events h hart effect next is =
+pub banks_come_before_points : MachinesResume → FragmentsStep → CoresStep → FragmentsGoOn → MarksPass → BanksComeBeforePoints
+banks_come_before_points machines fragments_step cores_step law marks y s events h hart effect next is =
     let w = world (translation_of y) events in
     let resumes = machines y s events in
     let stands : Simulates y s w = resumes.is.stands in
-    let i : IsInPhase w h Run = record { hart = hart; here = next.here; phase_is = running_is hart.phase next.runs } in
-    let r = runs_ready y s w h stands i in
+    let r = ready_now y s w stands h hart effect next in
     let site = r.site in
     let z = site.stands in
-    let held = (runs_held y s w z.abstract z.ghosts h z.machine.log z.machine.sound i z.locks).1 in
     let number = same_number site in
-    let f =
-    finds site held law marks hart effect (subst (λ (n : ℕ). IsNext y.runs.program w n hart effect) (sym number) next)
-    (subst (λ (n : ℕ). is_point_store w.log n effect ≡ true) (sym number) is) r.ready in
+    let f = finds_now y s w stands law marks h hart effect next is in
+    let told = stores_told y s fragments_step cores_step law events in
     record {
       recorded = f.recorded;
       stores = f.stores ∙ ap (λ (n : ℕ). Stores (point_at w.log n) 8 f.recorded.point) number;
@@ -245,6 +295,7 @@ banks_come_before_points machines law marks y s events h hart effect next is =
           (as_source y s z.abstract).now_matches;
       describes = f.describes;
       taken = λ lock among. subst (λ (n : ℕ). HartHolds w n lock) number (f.taken lock among);
-      stored = λ v e writes. stored_at y s events (machines y s events) z.abstract r.similar.abstract (z.memory) h v e
-          (subst (λ (n : ℕ). StableOf y z.abstract n v e) number (f.stored v e)) writes;
+      stored = λ word position last. stored_last y s w told.stands law marks h hart effect next is word position (told.last h word ∙ last);
+      stable = λ v e writes. stable_at y s events (machines y s events) z.abstract r.similar.abstract (z.memory) h v e
+          (subst (λ (n : ℕ). StableOf y z.abstract n v e) number (f.stable v e)) writes;
     }

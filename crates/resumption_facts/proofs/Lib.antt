@@ -1,6 +1,7 @@
 mod Calls
 mod OwnStores
 mod BegunStores
+mod LastStores
 mod BanksBeforePoints
 mod BanksKept
 mod RegistersResumed

@@ -16,7 +16,19 @@ use Rattle.log_states.specs.Machines.{config_of}
 use Rattle.log_states.proofs.Public.{ends, log_facts}
 use Rattle.recovered_threads.specs.RecordDescriptions.{Code, Describes}
 use Rattle.recovered_threads.specs.RecoveryStates.{Gathers, HasGathered, IsRecoveredHart, ResumesThread}
+use Rattle.recovered_threads.specs.RecordDescriptions.{IsInside, ResumesAt, at_chosen, past_lock, past_unlock}
 use Rattle.recovered_threads.proofs.Public.{harts_go_on}
+use Rattle.thread_code.specs.Programs as table
+use Rattle.thread_code.specs.Programs.{IsResumeAddress}
+use Rattle.code_runs.specs.CodeTraces.{MarkedEnvironment}
+use Rattle.code_runs.specs.ComputingRuns.{config}
+use Rattle.hart_runs.specs.HartsOnRuns.{IsRunningAt}
+use Rattle.thread_runs.specs.Laws.{AreResumed, ResumedGoOn, node_resumed}
+use Rattle.crash_simulation.proofs.Public.{placed}
+use Rattle.log_schemes.specs.declared.log.Log.{Log}
+use Rattle.log_states.specs.Logs.{Record, side_of}
+use Rattle.boundary_code.specs.Boundaries.{IsOnSide}
+use Rattle.flow_graph.specs.Actions.{FlowState, Seen, seen_by}
 use Rattle.crash_simulation.specs.AbstractRuns.{kept_of}
 use Rattle.crash_simulation.specs.AccountRelation.{MachinesResume}
 use Rattle.crash_simulation.specs.SimulationRelation.{AreLocked, Simulates, gathered, gathering, records_of}
@@ -26,7 +38,9 @@ use Rattle.crash_simulation.proofs.Public.{as_source, phase_of}
 use Rattle.compiler_correctness.specs.Laws.{translation_of}
 use Rattle.compiler_correctness.specs.Translations.{steps, world}
 use Rattle.compiler_correctness.proofs.Public.{kept_is}
-use Rattle.resumption_facts.specs.RegistersResumed.{RegistersAreResumed}
+use Rattle.thread_runs.specs.CodeFragments.{on_machine}
+use Rattle.thread_runs.specs.Laws.{IsUnderFragment}
+use Rattle.resumption_facts.specs.RegistersResumed.{NeedsNoOthers, RegistersAreResumed, StandsResumed}
 
 module _ (y : System) (s : IsSystem y) (w : World) (stands : Simulates y s w) (h : ℕ) (i : IsInPhase w h Resume) where
   open stands use {abstract as b}
@@ -83,8 +97,54 @@ module _ (y : System) (s : IsSystem y) (w : World) (stands : Simulates y s w) (h
       ap (λ (x : Hart). x.registers) (same_hart goes.after step.after own step.does) ∙ step.registers in
       ap (λ (x : List ℕ). read x register) all ∙ reads.registers ready.inside register kept
 
-pub registers_are_resumed : MachinesResume → RegistersAreResumed
-registers_are_resumed machines y s events h i =
+-- ---- Other registers
+
+module _ (go_on : ResumedGoOn) (y : System) (s : IsSystem y) (h : ℕ) (below : h < thread_count y) (state : FlowState) (recorded : Record)
+    (told : IsInside y.plan (s.codes.each h below) state recorded) (v : World) (environment : MarkedEnvironment) (registers : List ℕ)
+    (there : StandsResumed y (s.codes.each h below) recorded v environment registers) where
+  abbrev own_code : Code y.plan
+  own_code = s.codes.each h below
+
+  open own_code use {thread, is, program as own_program}
+  open told use {graph_thread, own}
+
+  abbrev sees : Seen
+  sees = seen_by state graph_thread
+
+  resumed_so : AreResumed y.plan thread is.places graph_thread.at sees (side_of recorded) registers
+  resumed_so = record {
+    kept = recorded.registers;
+    old = told.side;
+    entered = told.enters;
+    at_side = subst (λ (l : Log). IsOnSide l (side_of recorded) registers) (sym there.log) there.side;
+    same = λ register live. there.same register (subst (λ (rs : List ℕ). Contains rs register) (sym told.live) live);
+  }
+
+  leads : (address : ℕ) (r : IsResumeAddress y.plan thread is.places address) → IsRunningAt v thread.number (config registers address) →
+      AreResumed y.plan thread is.places (node_resumed y.plan thread is.places r) sees (side_of recorded) registers →
+      IsUnderFragment y.plan thread is.places (on_machine y.runs.program v thread.number environment) (node_resumed y.plan thread is.places r) sees
+      (side_of recorded) registers
+  leads address r =
+      go_on y.plan thread y.runs.program own_program is v thread.number environment address r sees (side_of recorded) registers
+      (placed y s v h below there.log there.count) there.meets there.agrees
+
+  leads_from : (address : ℕ) → ResumesAt y.plan own_code graph_thread.at address → IsRunningAt v thread.number (config registers address) →
+      IsUnderFragment y.plan thread is.places (on_machine y.runs.program v thread.number environment) graph_thread.at sees (side_of recorded) registers
+  leads_from _ (at_chosen chosen) at = leads _ (table.at_chosen graph_thread.at own chosen) at resumed_so
+  leads_from _ (past_lock from lock row from_own found locks) at = leads _ (table.past_lock from lock graph_thread.at row from_own found locks) at resumed_so
+  leads_from _ (past_unlock from lock row from_own found unlocks holds) at =
+      leads _ (table.past_unlock from lock graph_thread.at row from_own found unlocks holds) at resumed_so
+
+  leads_on : IsUnderFragment y.plan thread is.places (on_machine y.runs.program v thread.number environment) graph_thread.at sees (side_of recorded) registers
+  leads_on = leads_from _ told.resumes there.at
+
+needs_no_others : ResumedGoOn → (y : System) (s : IsSystem y) (h : ℕ) (below : h < thread_count y) (state : FlowState) (recorded : Record) →
+    (told : IsInside y.plan (s.codes.each h below) state recorded) → NeedsNoOthers y (s.codes.each h below) state recorded told
+needs_no_others go_on y s h below state recorded told v environment registers there =
+    leads_on go_on y s h below state recorded told v environment registers there
+
+pub registers_are_resumed : MachinesResume → ResumedGoOn → RegistersAreResumed
+registers_are_resumed machines go_on y s events h i =
     let w : World = world (translation_of y) events in
     let stands : Simulates y s w = (machines y s events).is.stands in
     record {
@@ -96,4 +156,5 @@ registers_are_resumed machines y s events h i =
           (sym (kept_is y s w (steps (translation_of y) events) (machines y s events))) (as_source y s stands.abstract).kept_matches;
       resumes = goes y s w stands h i;
       registers = has_registers y s w stands h i;
+      needs_no_others = needs_no_others go_on y s h (below y s w stands h i) (kept_of y stands.abstract) (stands.ghosts h).new (goes y s w stands h i).told;
     }

@@ -1,11 +1,14 @@
--- Bank before point: when a point is stored, the bank that it names is durable, and so is what the thread has stored since its last point.
-use Rattle.std.specs.Prelude.{◌≡◌, ℕ, ◌<◌, List, true}
+-- Bank before point: when a point is stored, the bank that it names is durable, and so is all else that the hart has stored.
+use Rattle.std.specs.Prelude.{◌≡◌, ℕ, ◌<◌, ◌≤◌, List, Some, true}
 use Rattle.machine_events.specs.declared.event.Event.{Event}
 use Rattle.log_schemes.specs.Layout.{point_at}
+use Rattle.ido_base.specs.Words.{word_at}
 use Rattle.ido_base.specs.Locks.{has_lock}
 use Rattle.rv64_isa.specs.Rows.{Effect, Stores}
+use Rattle.machine_model.specs.Executables.{first_world}
 use Rattle.machine_model.specs.Machine.{Hart}
 use Rattle.machine_model.specs.Schedule.{all_lives, harts_of, is_point_store, schedules}
+use Rattle.crash_simulation.specs.StorePositions.{last_store}
 use Rattle.source_machine.specs.StepExchanges.{steps_of}
 use Rattle.flow_graph.specs.Actions.{FlowState}
 use Rattle.flow_graph.specs.Lockstep.{Matches}
@@ -37,8 +40,12 @@ pub record FindsBank (y : System) (s : IsSystem y) (events : List Event) (h : �
   pub state : FlowState
   pub matches : Matches (translation_of y).flat state (source (translation_of y) (all_lives (now (translation_of y) events)))
   pub describes : Describes y.plan (s.codes.each h below) state recorded
-  -- of each element that the thread has stored by steps since its last point only that number can be left by a crash which it has now
-  pub stored : (variable number : ℕ) → IsUnkeptStore (translation_of y) events h variable number →
+  -- each word is durable as of the hart's last store into it since the last start or crash, or later
+  pub stored : (word position : ℕ) → last_store y.runs.program (first_world y.runs) events h word ≡ Some position →
+      position ≤ (word_at (world (translation_of y) events).words word).durable
+  -- of each element that the thread has stored by steps since its last point only that number can be left by a crash which it has now: nobody else has
+  -- stored another one since
+  pub stable : (variable number : ℕ) → IsUnkeptStore (translation_of y) events h variable number →
       IsStable (history_at (memory_in (places_of y) (world (translation_of y) events).words) variable number)
       (number_at (source (translation_of y) (all_lives (now (translation_of y) events))) variable number)
   -- no lock is recorded before it is taken

@@ -1,18 +1,44 @@
--- Registers resumed: a hart goes on where its record says, with the registers that it has recorded.
-use Rattle.std.specs.Prelude.{◌≡◌, ℕ, ◌<◌, List, Contains}
+-- Registers resumed: a hart goes on where its record says, with the registers that it has recorded, and its code needs no others.
+use Rattle.std.specs.Prelude.{◌≡◌, ℕ, ◌<◌, List, Contains, length}
 use Rattle.machine_events.specs.declared.event.Event.{Event}
 use Rattle.rv64_isa.specs.Rows.{read}
 use Rattle.machine_model.specs.declared.phase.Phase.TheVariants.{Resume}
-use Rattle.machine_model.specs.Machine.{Hart}
+use Rattle.machine_model.specs.Machine.{Hart, World, resume_of}
 use Rattle.machine_model.specs.Schedule.{schedules}
-use Rattle.flow_graph.specs.Actions.{FlowState}
+use Rattle.boundary_code.specs.Boundaries.{IsOnSide}
+use Rattle.code_runs.specs.CodeTraces.{MarkedEnvironment, Meets}
+use Rattle.code_runs.specs.ComputingRuns.{config}
+use Rattle.flow_graph.specs.Actions.{FlowState, seen_by}
 use Rattle.flow_graph.specs.Lockstep.{Matches}
 use Rattle.hart_runs.specs.Calls.{IsInPhase}
-use Rattle.log_states.specs.Logs.{IsRecorded, Record}
+use Rattle.hart_runs.specs.HartsOnRuns.{Agrees, IsRunningAt}
+use Rattle.log_states.specs.Logs.{IsRecorded, Record, side_of}
+use Rattle.recovered_threads.specs.RecordDescriptions.{Code, IsInside}
 use Rattle.recovered_threads.specs.RecoveryStates.{ResumesThread}
+use Rattle.thread_runs.specs.CodeFragments.{on_machine}
+use Rattle.thread_runs.specs.Laws.{IsUnderFragment}
 use Rattle.crash_simulation.specs.Systems.{System, IsSystem, thread_count}
 use Rattle.compiler_correctness.specs.Laws.{translation_of}
 use Rattle.compiler_correctness.specs.Translations.{source, steps, world}
+
+-- in a world of the system's machine, whatever it is, the hart stands where the record says, the side of its log and each register that was recorded are as
+-- they were, and the others are anything
+pub record StandsResumed (y : System) (code : Code y.plan) (recorded : Record) (v : World) (environment : MarkedEnvironment) (registers : List ℕ) : Type 0 where
+  pub log : y.plan.log ≡ v.log
+  pub count : length v.harts ≡ thread_count y
+  -- its code is met there
+  pub meets : Meets code.is.places.program environment
+  pub agrees : Agrees y.runs.program v code.thread.number environment
+  pub at : IsRunningAt v code.thread.number (config registers (resume_of recorded.point))
+  pub side : IsOnSide v.log (side_of recorded) registers
+  pub same : (register : ℕ) → Contains recorded.live register → read registers register ≡ read recorded.registers register
+
+-- wherever it stands so, its code leads it to the same node, with registers that represent the same there
+abbrev pub NeedsNoOthers : (y : System) (code : Code y.plan) → (state : FlowState) → (recorded : Record) → IsInside y.plan code state recorded → Type 0
+NeedsNoOthers y code state recorded told = (v : World) (environment : MarkedEnvironment) (registers : List ℕ) →
+    StandsResumed y code recorded v environment registers →
+    IsUnderFragment y.plan code.thread code.is.places (on_machine y.runs.program v code.thread.number environment) told.graph_thread.at
+    (seen_by state told.graph_thread) (side_of recorded) registers
 
 pub record ResumesAsRecorded (y : System) (s : IsSystem y) (events : List Event) (h : ℕ) (hart : Hart) : Type 0 where
   -- its log has this record and no other
@@ -26,6 +52,7 @@ pub record ResumesAsRecorded (y : System) (s : IsSystem y) (events : List Event)
   pub resumes : ResumesThread y.runs.program (s.codes.each h below) state (world (translation_of y) events) hart recorded
   -- each register that was recorded has the value recorded
   pub registers : (register : ℕ) → Contains recorded.live register → read resumes.after.registers register ≡ read recorded.registers register
+  pub needs_no_others : NeedsNoOthers y (s.codes.each h below) state recorded resumes.told
 
 -- after any events, of each hart of a compiled program that is about to be resumed
 abbrev pub RegistersAreResumed : Type 0

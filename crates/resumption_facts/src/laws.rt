@@ -7,15 +7,18 @@ ghost use Rattle.resumption_facts.specs.StoresFollowReads.{RerunsReadNothingOver
 
 use compiler_correctness::laws::machines_record;
 use crash_simulation::laws::{cores_step, events_stand, fragments_step, machines_resume};
-use thread_runs::laws::{fragments_go_on, marks_pass};
+use thread_runs::laws::{fragments_go_on, marks_pass, resumed_go_on};
 
 /// Bank before point: whenever a hart is about to store its point, the bank that this names is durable. Each slot of the record has what was recorded:
-/// where the thread stands by all steps that are begun, with the locks held there, which the hart has taken, and the live registers. What the thread has
-/// stored since its last point is durable as it is now.
+/// where the thread stands by all steps that are begun, with the locks held there, which the hart has taken, and the live registers. Each word is durable
+/// as of the hart's last store into it since the last start or crash, or later; and a crash can leave of what the thread has stored since its last point only
+/// what it has now.
 pub fn banks_come_before_points()
     ensures { BanksComeBeforePoints }
 {
     machines_resume();
+    cores_step();
+    fragments_step();
     fragments_go_on();
     marks_pass();
 }
@@ -32,11 +35,13 @@ pub fn banks_are_kept()
 }
 
 /// Registers resumed: a hart that is resumed has each register that it has recorded, and so all that the code there may rely on: the side of its log, each
-/// local that is live where the kept steps leave its thread, and a store that is pending.
+/// local that is live where the kept steps leave its thread, and a store that is pending. It needs no others: with anything in them its code leads to the
+/// same node.
 pub fn registers_are_resumed()
     ensures { RegistersAreResumed }
 {
     machines_resume();
+    resumed_go_on();
 }
 
 /// Rerun reads nothing overwritten: from where a thread would be resumed on it stores nothing that it has read before on the way, unless it had stored that
