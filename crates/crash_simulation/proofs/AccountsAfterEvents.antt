@@ -11,14 +11,15 @@ use Rattle.crash_simulation.proofs.Common.{EventsStand, RunsSimulate, SectionsEn
 use Rattle.crash_simulation.proofs.Common.{IsReleasedOf, ended_in_machine, SectionsAreKept, SimulatesBut, Simulates, anybody, System, IsSystem, thread_count}
 use Rattle.crash_simulation.proofs.Common.{flat_of, ThreadGhost, lowered, now_of}
 use Rattle.crash_simulation.proofs.Common.{boundary_fences, AreFencesCounted}
-use Rattle.crash_simulation.proofs.Common.{is_fence, finishes_fence, is_point_store, stores_point, same_or_other, last_store_after}
+use Rattle.crash_simulation.proofs.Common.{is_fence, finishes_fence, is_point_store, stores_point, same_or_other, last_store_after, first_access_after}
 use Rattle.std.specs.Prelude.{if◌then◌else◌}
 use Rattle.machine_events.specs.declared.event.Event.TheVariants.{Start}
 use Rattle.source_machine.specs.Lives.{end_lives, ends_life}
 use Rattle.machine_model.specs.Schedule.{KeepsOn, begins_life, released_along}
 use Rattle.crash_simulation.specs.StorePositions.{stores_into}
 use Rattle.crash_simulation.proofs.BoundaryFences.{joined_fences, same_fences}
-use Rattle.crash_simulation.proofs.CompletedEffects.{completes_none, completes_other, last_unless}
+use Rattle.crash_simulation.specs.Accesses.{Access}
+use Rattle.crash_simulation.proofs.CompletedEffects.{accessed_none, completes_none, completes_other, last_unless}
 use Rattle.crash_simulation.specs.BoundaryPassages.{passages}
 use Rattle.crash_simulation.proofs.BoundaryPassages.{ArePassed, FollowsBegun, led_graph, step_passed, then_passes}
 use Rattle.crash_simulation.specs.AccountRelation.{SimulatesLives, beginning_after, next_beginning}
@@ -26,7 +27,8 @@ use Rattle.crash_simulation.specs.ReleasedSections.{ended_by}
 use Rattle.crash_simulation.specs.InstructionSteps.{on_fragment, at_core}
 use Rattle.crash_simulation.proofs.LifeAccounts.{begins_at, from_after, one_more, one_more_ends, schedule_is}
 use Rattle.crash_simulation.proofs.LifeStarts.{HasBegun, start_goes, start_then_counted}
-use Rattle.crash_simulation.proofs.AccountsBeforeCommit.{released_by, none_released, stays_done, phase_releases, kept_crashed, none_bound, recovered_counted}
+use Rattle.crash_simulation.proofs.AccountsBeforeCommit.{released_by, none_released, stays_done, phase_releases, kept_crashed, recovered_counted}
+use Rattle.crash_simulation.proofs.ReadBytes.{none_bound}
 use Rattle.crash_simulation.proofs.AccountsBeforeCommit.{start_counted, crash_counted, evicted_counted, own_step_counted, GoesOnBy, led_now}
 use Rattle.crash_simulation.proofs.LastReleases.{holders_stay_none, describes_test, at_most_one}
 use Rattle.crash_simulation.proofs.LoadFreeEnvironment.{none_ahead}
@@ -126,7 +128,8 @@ module _ (y : System) (s : IsSystem y) (w : World) (event : Event) (old : Simula
 
   -- while the life goes on, the source goes on by these steps, and each attempt comes as far as any before; a thread has to give back what it had, or what its
   -- step unlocks; a hart that executes instructions is one step nearer to its next mark by its own steps; what is finished of fences no boundary has more
-  -- ahead; the graph goes on by the steps, which pass boundaries as points are stored; and a store of a hart is its last one then
+  -- ahead; the graph goes on by the steps, which pass boundaries as points are stored; and a store of a hart is its last one then, and an access its first one
+  -- if there was none
   pub record Continues {waiting : ℕ → Type 0} (new : SimulatesBut y s later_world waiting) : Type 0 where
     pub source : now new.abstract.config ≡ after_from (now old.abstract.config) (begun_in y w event)
     pub runs : runs_from (now old.abstract.config) (begun_in y w event) ≡ true
@@ -139,6 +142,7 @@ module _ (y : System) (s : IsSystem y) (w : World) (event : Event) (old : Simula
     pub fences : (n : ℕ) → AreFencesCounted (boundary_fences y.plan.log) (finishes_fence program w event n) (stores_point program w event n)
         (old.ghosts n).rest (new.ghosts n).rest
     pub last : (n word : ℕ) → (new.ghosts n).last_stores word ≡ last_store_after program w event n word ((old.ghosts n).last_stores word)
+    pub accesses : (n byte : ℕ) → (new.ghosts n).first_accesses byte ≡ first_access_after program w event n byte ((old.ghosts n).first_accesses byte)
     pub graph : FollowsBegun y (now_of y old.abstract) (now_of y new.abstract) (begun_in y w event)
     pub passed : (n : ℕ) → n < thread_count y → ArePassed y (stores_point program w event n) (passed_in n)
         old.abstract (is_bound (old.ghosts n)) new.abstract (is_bound (new.ghosts n)) n
@@ -164,8 +168,9 @@ module _ (y : System) (s : IsSystem y) (w : World) (event : Event) (old : Simula
     pub on : KeepsOn event → Continues next
     pub whole : begins_life w event ≡ true → ends_life old.abstract.origin.source old.abstract.schedule ≡ true
     pub anew : begins_life w event ≡ true → HasBegun y s later_world next
-    -- where harts have stored last
+    -- where harts have stored last, and what they have accessed first
     pub last : (n word : ℕ) → (next.ghosts n).last_stores word ≡ last_store_after program w event n word ((old.ghosts n).last_stores word)
+    pub accesses : (n byte : ℕ) → (next.ghosts n).first_accesses byte ≡ first_access_after program w event n byte ((old.ghosts n).first_accesses byte)
     -- a crash cuts boundaries off, and nothing else does
     pub fences : event ≢ Crash → (n : ℕ) → n < thread_count y →
         AreFencesCounted (boundary_fences y.plan.log) (finishes_fence program w event n) (stores_point program w event n) (old.ghosts n).rest
@@ -195,6 +200,7 @@ module _ (y : System) (s : IsSystem y) (w : World) (event : Event) (old : Simula
             ((sym (c.rest n)) j)) (moves.on.fences n);
         cut_off = λ is. absurd (no_crash keeps is);
         last = last_then;
+        accesses = accesses_then;
         on = λ on. record {
           source = c.source ∙ moves.on.source;
           runs = moves.on.runs;
@@ -208,6 +214,7 @@ module _ (y : System) (s : IsSystem y) (w : World) (event : Event) (old : Simula
               coe 0 1 (j. AreFencesCounted (boundary_fences y.plan.log) (finishes_fence program w event n) (stores_point program w event n) (old.ghosts n).rest
               ((sym (c.rest n)) j)) (moves.on.fences n);
           last = last_then;
+          accesses = accesses_then;
           graph = record { runs = moves.on.graph.runs; is = c.states ∙ moves.on.graph.is };
           passed = λ n below.
               then_passes y (stores_point program w event n) (passed_in n) old.abstract moves.next.abstract c.stands.abstract (is_bound (old.ghosts n))
@@ -219,6 +226,11 @@ module _ (y : System) (s : IsSystem y) (w : World) (event : Event) (old : Simula
           ≡ last_store_after program w event n word ((old.ghosts n).last_stores word)
       last_then n word =
           ap (λ (m : ℕ → Option ℕ). m word) ((all_caught_up y s later_world moves.next).last n) ∙ moves.on.last n word
+
+      accesses_then : (n byte : ℕ) → ((all_caught_up y s later_world moves.next).stands.ghosts n).first_accesses byte
+          ≡ first_access_after program w event n byte ((old.ghosts n).first_accesses byte)
+      accesses_then n byte =
+          ap (λ (m : ℕ → Option Access). m byte) ((all_caught_up y s later_world moves.next).accesses n) ∙ moves.on.accesses n byte
 
 -- ---- Whatever happens
 
@@ -263,7 +275,8 @@ module _ (fragments_step : FragmentsStep) (cores_step : CoresStep) where
                 subst (λ (z : Steps). AreCounted y g after old.abstract old.ghosts z (released_by y.runs.program w (Step h) r))
                 (sym (nothing_counted y.runs.marks y.runs.program w h none steps))
                 (account_stays y (record { source = refl; schedule = refl; uncommitted = refl })
-                (λ n. record { bound = refl; leaving = refl; giving = refl; ahead = refl; last = refl }) (stays_done y.runs.program w h old.machine.sound)
+                (λ n. record { bound = refl; leaving = refl; giving = refl; ahead = refl; last = refl; accesses = refl })
+                (stays_done y.runs.program w h old.machine.sound)
                 (λ n i. last_position (point_in (logs i) (still.words i) n)) (none_released y.runs.program w h releases r) counted);
             sections = λ n. record { sections = refl; between = refl };
             on = record {
@@ -280,6 +293,8 @@ module _ (fragments_step : FragmentsStep) (cores_step : CoresStep) where
                   (completes_none (is_point_store w.log n) y.runs.program w h n none);
               last = λ n word.
                   last_unless y.runs.program w h word ((old.ghosts n).last_stores word) n (completes_none (stores_into word) y.runs.program w h n none);
+              accesses = λ n byte.
+                  accessed_none y.runs.program w h byte ((old.ghosts n).first_accesses byte) n (λ test. completes_none test y.runs.program w h n none);
               graph = subst (λ (us : List ℕ). FollowsBegun y (now_of y old.abstract) (now_of y old.abstract) us) (sym begun)
                   (record { runs = refl; is = refl });
               passed = λ n below.
@@ -354,6 +369,19 @@ module _ (fragments_step : FragmentsStep) (cores_step : CoresStep) where
                     ∙ (ap (λ (m : ℕ → Option ℕ). m word) (r.similar.same n).last
                     ∙ last_unless y.runs.program w h word ((old.ghosts n).last_stores word) n (completes_other (stores_into word) y.runs.program w h n apart))
               ];
+              accesses = λ n byte. elim (same_or_other n h) [
+                | inl same ↦
+                    subst (λ (k : ℕ). (later.ghosts k).first_accesses byte
+                    ≡ first_access_after y.runs.program w (Step h) k byte ((old.ghosts k).first_accesses byte)) (sym same)
+                    (ap (λ (c : ThreadGhost). c.first_accesses byte) (own_ghost ghosts h o.ghost)
+                    ∙ (o.counted.accesses byte
+                    ∙ ap (λ (m : ℕ → Option Access). first_access_after y.runs.program w (Step h) h byte (m byte)) (r.similar.same h).accesses))
+                | inr apart ↦
+                    ap (λ (c : ThreadGhost). c.first_accesses byte) (other_ghost ghosts h o.ghost n apart)
+                    ∙ (ap (λ (m : ℕ → Option Access). m byte) (r.similar.same n).accesses
+                    ∙ accessed_none y.runs.program w h byte ((old.ghosts n).first_accesses byte) n
+                    (λ test. completes_other test y.runs.program w h n apart))
+              ];
               graph =
                   coe 0 1 (j. FollowsBegun y (now_of y (r.similar.abstract j)) (now_of y o.next) (begun_by (marks j) h []))
                   (led_graph y s site.stands.abstract h o.next o.led);
@@ -403,6 +431,7 @@ module _ (fragments_step : FragmentsStep) (cores_step : CoresStep) where
         nears = λ n is i. cc;
         fences = λ n. same_fences (boundary_fences y.plan.log) false false (old.ghosts n).rest refl refl;
         last = λ n word. refl;
+        accesses = λ n byte. refl;
         graph = record { runs = refl; is = refl };
         passed = λ n below. omega arith;
       };
@@ -421,6 +450,7 @@ module _ (fragments_step : FragmentsStep) (cores_step : CoresStep) where
       whole = λ begins. absurd (true≢false (sym begins));
       anew = λ begins. absurd (true≢false (sym begins));
       last = λ n word. refl;
+      accesses = λ n byte. refl;
       fences = λ other. absurd (other refl);
       cut_off = λ is n. refl;
     }
@@ -433,6 +463,7 @@ module _ (fragments_step : FragmentsStep) (cores_step : CoresStep) where
           whole = o.whole;
           anew = o.anew;
           last = o.last;
+          accesses = o.accesses;
           fences = λ other n below. o.fences n below;
           cut_off = λ is. absurd (start_no_crash is);
         }

@@ -144,10 +144,6 @@ module _ (y : System) (s : IsSystem y) (w : World) (stands : Simulates y s w) (r
 
 -- ---- The account
 
--- where the last boundary is taken as committed, no steps are bound
-pub none_bound : (c : ThreadGhost) → c.committed ≡ true → is_bound c ≡ false
-none_bound c is = ap (λ (b : Bool). not b && not (list_any is_store c.rest)) is
-
 -- ---- Starts and crashes
 
 -- the account of a machine that begins, after what was kept before
@@ -214,7 +210,7 @@ pub evicted_counted : (y : System) (s : IsSystem y) {g : Beginning} (w : World) 
     (released_by y.runs.program w (Evict line mask) r)
 evicted_counted y s w line mask stands steps r counted =
     account_stays y (record { source = refl; schedule = refl; uncommitted = refl })
-    (λ n. record { bound = refl; leaving = refl; giving = refl; ahead = refl; last = refl })
+    (λ n. record { bound = refl; leaving = refl; giving = refl; ahead = refl; last = refl; accesses = refl })
     (λ n i. let here = ap (λ (v : World). slice_get v.harts n) (evictions_touch y.runs.program w line mask).1 ∙ i.here in
     record { hart = i.hart; here = here; phase_is = i.phase_is })
     (evicted_last_stays y.runs.program w line mask) (λ n. sym (none_more (r n))) counted

@@ -18,10 +18,10 @@ use Rattle.crash_simulation.proofs.LocksAfterStep.{GoneOn, runs_held, held_given
 use Rattle.crash_simulation.proofs.OwnHartSteps.{view, StepOf, own_step, own_giving, locks_to, held_still}
 use Rattle.crash_simulation.proofs.LockCallSteps.{none_from, point_none, AtEnd, MovesHart, FragmentTo, z, invariant, placed_here, exists_now, now_holders}
 use Rattle.crash_simulation.proofs.LockCallSteps.{kept_held, fragment_over, none_left, rest_over, hart_is, committed_over, call_stores, points_none, alone}
-use Rattle.crash_simulation.proofs.LockCallSteps.{holders_after, memory_after, describes_new, asks_step, fences_still, last_still}
+use Rattle.crash_simulation.proofs.LockCallSteps.{holders_after, memory_after, describes_new, asks_step, fences_still, last_still, accesses_still}
 use Rattle.crash_simulation.proofs.StatesMatchSource.{kept_matches}
 use Rattle.crash_simulation.proofs.KeptThreads.{phase_moves}
-use Rattle.crash_simulation.proofs.LoadFreeEnvironment.{bare_answers, placed}
+use Rattle.crash_simulation.proofs.LoadFreeEnvironment.{bare_answers, bare_just_read, placed}
 use Rattle.crash_simulation.proofs.LocksAtCalls.{ends_free}
 use Rattle.crash_simulation.proofs.StepsAfterMarks.{less_soon}
 use Rattle.crash_simulation.proofs.FragmentSteps.{not_twice}
@@ -118,6 +118,7 @@ module _ {y : System} {s : IsSystem y} {w : World} {h from mutex : ℕ} (at : At
       on_fragment Arrives on.steps (record {
         environment = z at;
         answers = bare_answers y s w h at.site.below (now b.config);
+        just_read = bare_just_read y s w h at.site.below b given_ghost;
         side = at.o.side;
         at_side = at.o.at_side;
         fragment = subst (λ (es : List Effect). IsOnFragment y.plan code.thread places (on_machine y.runs.program v n (z at))
@@ -213,6 +214,7 @@ module _ {y : System} {s : IsSystem y} {w : World} {h from mutex : ℕ} (at : At
         | inr more ↦ is_nearer (nearer.0 ∙ ap suc (sym (cond-false is_over (most_ahead y n) (c.before_mark - 1) more)))
       ];
       last = last_still at at_unlock;
+      accesses = accesses_still at at_unlock;
     };
     released = given_released;
   }
@@ -285,6 +287,7 @@ module _ {y : System} {s : IsSystem y} {w : World} {h : ℕ} (at : AtEnd y s w h
       fences = fences_still at at_end;
       nears = halts ended_move.new (alone at ended_move).here (inr refl);
       last = last_still at at_end;
+      accesses = accesses_still at at_end;
     };
     released = nothing_released (holders_stay_none y.runs.program w n (holders_after at ended_move)) refl;
   }

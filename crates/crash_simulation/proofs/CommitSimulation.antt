@@ -235,7 +235,8 @@ module _ (y : System) (s : IsSystem y) (w : World) (k : ℕ) (below : k < thread
 -- ---- All threads
 
 -- commits of so many threads are taken: the state now is the same, what each thread has still to give back, how near its hart is to its next mark, and where
--- that has stored last; where each attempt has come as far as any before, so it has then; and the machine has kept the steps that are bound to durable points
+-- that has stored last and what it has accessed first; where each attempt has come as far as any before, so it has then; and the machine has kept the steps
+-- that are bound to durable points
 pub record CatchesUp (y : System) (s : IsSystem y) (w : World) (first : SimulatesBut y s w anybody) (count : ℕ) (waiting : ℕ → Type 0) : Type 0 where
   pub stands : SimulatesBut y s w waiting
   pub source : now stands.abstract.config ≡ now first.abstract.config
@@ -244,6 +245,7 @@ pub record CatchesUp (y : System) (s : IsSystem y) (w : World) (first : Simulate
   pub ahead : (n : ℕ) → (stands.ghosts n).before_mark ≡ (first.ghosts n).before_mark
   pub rest : (n : ℕ) → (stands.ghosts n).rest ≡ (first.ghosts n).rest
   pub last : (n : ℕ) → (stands.ghosts n).last_stores ≡ (first.ghosts n).last_stores
+  pub accesses : (n : ℕ) → (stands.ghosts n).first_accesses ≡ (first.ghosts n).first_accesses
   -- the graph is where it was, and of boundaries that are passed and points that are stored as many are ahead
   pub states : now_of y stands.abstract ≡ now_of y first.abstract
   pub passed : (n : ℕ) → n < thread_count y →
@@ -300,6 +302,7 @@ module _ (y : System) (s : IsSystem y) (w : World) (first : SimulatesBut y s w a
           ahead = h.ahead;
           rest = h.rest;
           last = h.last;
+          accesses = h.accesses;
           states = one.states ∙ h.states;
           passed = λ n inside.
               then_passes y false 0 first.abstract b one.next (is_bound (first.ghosts n)) (is_bound (h.stands.ghosts n)) _ n (h.passed n inside)
@@ -330,6 +333,7 @@ module _ (y : System) (s : IsSystem y) (w : World) (first : SimulatesBut y s w a
       ahead = h.ahead;
       rest = h.rest;
       last = h.last;
+      accesses = h.accesses;
       states = h.states;
       passed = h.passed;
       counted = λ g steps r counted.
@@ -372,6 +376,7 @@ module _ (y : System) (s : IsSystem y) (w : World) (first : SimulatesBut y s w a
     ahead = λ n. refl;
     rest = λ n. refl;
     last = λ n. refl;
+    accesses = λ n. refl;
     states = refl;
     passed = λ n inside. omega arith;
     counted = λ g steps r counted. counted;

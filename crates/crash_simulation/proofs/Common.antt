@@ -62,6 +62,7 @@ pub use Rattle.machine_model.specs.Schedule.{Steps, has_moved, is_running, compl
 pub use Rattle.machine_model.specs.Schedule.{with_begun, then_stored, with_stored, is_up_to, is_durable, with_kept, with_all_kept, steps_along, releases_last}
 pub use Rattle.machine_model.specs.Schedule.{released_count, LifeSchedules, only_life, first_steps, effect_at, is_point_store, is_fence, finishes_fence}
 unfoldable pub use Rattle.machine_model.specs.Schedule.{steps_after}
+pub use Rattle.crash_simulation.specs.Accesses.{first_access_after}
 pub use Rattle.crash_simulation.specs.StorePositions.{last_store_after}
 pub use Rattle.rv64_isa.specs.declared.instr.Instr.{Instr}
 pub use Rattle.rv64_isa.specs.declared.instr.Instr.TheVariants.{Ecall}
@@ -120,7 +121,8 @@ pub use Rattle.region_attempts.specs.PendingCleans.{line_of, CleansSince}
 pub use Rattle.region_attempts.proofs.Public.{is_there, owes_at, own_step, attempts_are_whole, graph_stands, graph_follows, one_node, IsThere, StoresHere}
 pub use Rattle.region_attempts.proofs.Public.{owing_at, locking_at, unlocking_at, rerun_reads_nothing_overwritten, readers_guard, stores_are_cleaned}
 pub use Rattle.region_attempts.proofs.Public.{writing_stores, free_at_boundaries, start_free, start_origin, executions_stay, kept_good, step_lockstep}
-pub use Rattle.region_attempts.proofs.Public.{matched_after, inner_runs, graph_settles}
+pub use Rattle.region_attempts.proofs.Public.{matched_after, inner_runs, graph_settles, read_here, stored_before_read}
+pub use Rattle.region_attempts.specs.Laws.{IsReadAt}
 pub use Rattle.code_runs.specs.CodeTraces.{Program, MarkedEnvironment, Meets, Trace, seen_effects, Mark, marked}
 pub use Rattle.code_runs.specs.ComputingRuns.{LocalConfig, config}
 pub use Rattle.log_states.specs.Laws.{recorded_by, IsRecoverable}
@@ -169,7 +171,8 @@ pub use Rattle.crash_simulation.specs.AbstractRuns.{AbstractRun, kept_of, now_of
 pub use Rattle.crash_simulation.specs.AccountRelation.{IsCountedOf, IsAccountedOf, AreCounted, Beginning, AreStoredAt, stored_at, last_stored, SimulatesCounted}
 pub use Rattle.crash_simulation.specs.AccountRelation.{MachinesResume, first_beginning}
 pub use Rattle.crash_simulation.specs.BoundaryFences.{boundary_fences, fences_due, AreFencesCounted}
-pub use Rattle.crash_simulation.specs.InstructionSteps.{is_bound, is_leaving, SaysSame, begins, IsUnlocked, was_unlocked, Site, IsReadyToStep, calls, OwnStep}
+pub use Rattle.crash_simulation.specs.ThreadGhosts.{is_bound}
+pub use Rattle.crash_simulation.specs.InstructionSteps.{is_leaving, SaysSame, begins, IsUnlocked, was_unlocked, Site, IsReadyToStep, calls, OwnStep}
 pub use Rattle.crash_simulation.specs.InstructionSteps.{FragmentsStep, CoresStep, Nears, Releases, nothing_released, last_released, StepsOrStutters, with_ghost}
 pub use Rattle.crash_simulation.specs.InstructionSteps.{gives, ends, stays, CallsStep, halts, is_nearer, MayStore, nothing, in_log, element, goes}
 pub use Rattle.crash_simulation.specs.InstructionSteps.{OnFragmentNow, IsDoneBy, abstract_next, thread_of, begins_step, is_begun, asks, IsCounted, AtCoreNow}
@@ -186,4 +189,4 @@ pub use Rattle.crash_simulation.specs.Systems.{System, IsSystem, thread_count, f
 pub use Rattle.crash_simulation.specs.ThreadGhosts.{Rests, ThreadGhost, on_fragment, at_core, InPhase, ThreadInv, IsRunningThread, GoesClean, IsBounded}
 pub use Rattle.crash_simulation.specs.ThreadGhosts.{ExitInv, HasCommittedLog, committed, AnswersGuarded, IsGuarded, InFragment, is_reached, is_ahead, IsFlushed}
 pub use Rattle.crash_simulation.specs.ThreadGhosts.{IsComing, HasStored, record_kept, IsInAttempt, HasRecords}
-pub use Rattle.crash_simulation.specs.ThreadGhosts.{IsOnItsWay, durable_there, comes_with, recorded_in, IsWordOf}
+pub use Rattle.crash_simulation.specs.ThreadGhosts.{IsOnItsWay, durable_there, comes_with, recorded_in, IsWordOf, AnswersJustRead, HasRead}

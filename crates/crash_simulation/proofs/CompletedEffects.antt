@@ -1,4 +1,4 @@
--- What a step of a hart completes, where it has stored last then, and that what is durable stays so.
+-- What a step of a hart completes, where it has stored last and what it has accessed first then, and that what is durable stays so.
 use Rattle.crash_simulation.proofs.Common.{◌≡◌, ◌≢◌, ℕ, List, sym, ◌∙◌, ap, ap₂, arith, subst, true, false, Option, Some, None, refl, Bool, inl, inr, ◌==◌}
 use Rattle.crash_simulation.proofs.Common.{slice_get, ◌&&◌, if◌then◌else◌, ◌≤◌, and_from, and_left, and_right, and_parts, cond-true, cond-false}
 use Rattle.crash_simulation.proofs.Common.{nat_tests, none-some, same_Some, AreChanged, word_number, Word, word_at}
@@ -8,6 +8,8 @@ use Rattle.crash_simulation.proofs.Common.{is_store, one_effect, last_store_afte
 use Rattle.crash_simulation.proofs.Common.{Event, Evict, Crash, evictions_touch, IsOfOthers}
 use Rattle.machine_events.specs.declared.event.Event.TheVariants.{Start}
 use Rattle.machine_model.specs.Schedule.{completes}
+use Rattle.crash_simulation.proofs.Common.{true≢false, ◌<◌, Calls, Cleans, Continues, Fences, Loads, Log, is_point_store, stores_point}
+use Rattle.crash_simulation.specs.Accesses.{Access, first_access_after, first_of, is_among, load, loads_from, store, stores_to}
 use Rattle.crash_simulation.specs.StorePositions.{stores_into}
 
 -- ---- What a step completes
@@ -87,6 +89,16 @@ module _ (test : Effect → Bool) (program : List (List Slot)) (w : World) (h : 
       ∙ cond-true (is_running hart.phase && has_moved (reply_to program w (Step h))) (Some hart) None (and_from (is_running hart.phase) _ next.runs moves) in
       ap₂ (λ (a b : Bool). a && b) (equal_self h) (ap (completed_by test program h) moved ∙ ap (test_of test) next.is)
 
+  -- none but such effects are completed
+  pub completed_is : (hart : Hart) (effect : Effect) → IsNext program w h hart effect → completes test program w (Step h) h ≡ true → test effect ≡ true
+  completed_is hart effect next is = by (test effect) refl
+    where
+      by : (b : Bool) → test effect ≡ b → test effect ≡ true
+      by true e = e
+      by false e =
+          absurd (true≢false (sym is ∙ none_completed (λ other made there.
+          ap test (sym (one_effect program w h hart other effect made next there)) ∙ e)))
+
 -- ---- Where it has stored last
 
 -- what stores nothing stores into no word
@@ -126,6 +138,100 @@ module _ (program : List (List Slot)) (w : World) (h word : ℕ) (before : Optio
           (before ≡ Some position) ⊎ ((word ≡ word_number address) × (position ≤ last_position (word_at (after_event program w (Step h)).words word)))
       by false other = inl (last_by hart (Stores address bytes value) next other ∙ is)
       by true same = by_step (sym (eqb-true (word_number address) word same)) (completes (stores_into word) program w (Step h) h) refl
+
+-- ---- What it has accessed first
+
+-- an effect that is no access to memory
+abbrev pub makes_access : Effect → Bool
+makes_access (Stores address bytes value) = true
+makes_access (Loads address bytes signed register) = true
+makes_access (Continues registers pc) = false
+makes_access (Cleans address) = false
+makes_access Fences = false
+makes_access Calls = false
+
+no_load : (byte : ℕ) (effect : Effect) → makes_access effect ≡ false → loads_from byte effect ≡ false
+no_load byte effect none = grind (arith, nat_tests)
+
+no_store : (byte : ℕ) (effect : Effect) → makes_access effect ≡ false → stores_to byte effect ≡ false
+no_store byte effect none = grind (arith, nat_tests)
+
+none_of_point : (log : Log) (thread : ℕ) (effect : Effect) → makes_access effect ≡ false → is_point_store log thread effect ≡ false
+none_of_point log thread effect none = grind (arith, nat_tests)
+
+abbrev then_first : (point loads stores : Bool) → Option Access → Option Access
+then_first point loads stores before = if point then None else first_of before loads stores
+
+still_first : (before : Option Access) → before ≡ first_of before false false
+still_first None = refl
+still_first (Some access) = refl
+
+module _ (program : List (List Slot)) (w : World) (h byte : ℕ) (before : Option Access) where
+  -- what it was, where the step completes no such instruction of the hart
+  accessed_unless : (n : ℕ) → stores_point program w (Step h) n ≡ false → completes (loads_from byte) program w (Step h) n ≡ false →
+      completes (stores_to byte) program w (Step h) n ≡ false → before ≡ first_access_after program w (Step h) n byte before
+  accessed_unless n point loads stores = still_first before ∙ sym (λ i. then_first (point i) (loads i) (stores i) before)
+
+  -- where it completes none
+  pub accessed_none : (n : ℕ) → ((test : Effect → Bool) → completes test program w (Step h) n ≡ false) →
+      before ≡ first_access_after program w (Step h) n byte before
+  accessed_none n none = accessed_unless n (none (is_point_store w.log n)) (none (loads_from byte)) (none (stores_to byte))
+
+  -- or one that accesses nothing
+  pub accessed_by : (hart : Hart) (effect : Effect) → IsNext program w h hart effect → makes_access effect ≡ false →
+      before ≡ first_access_after program w (Step h) h byte before
+  accessed_by hart effect next none =
+      let completes_no = λ (test : Effect → Bool) (fails : test effect ≡ false). none_completed test program w h (λ other made is.
+      subst (λ (e : Effect). test e ≡ false) (one_effect program w h hart other effect made next is) fails) in
+      accessed_unless h (completes_no (is_point_store w.log h) (none_of_point w.log h effect none)) (completes_no (loads_from byte) (no_load byte effect none))
+      (completes_no (stores_to byte) (no_store byte effect none))
+
+-- a byte that is loaded first has been so before, or hadn't been accessed and is loaded now
+pub loaded_first : (point loads stores : Bool) (before : Option Access) → then_first point loads stores before ≡ Some load →
+    (point ≡ false) × ((before ≡ Some load) ⊎ ((before ≡ None) × (loads ≡ true)))
+loaded_first true loads stores before e = absurd (none-some load e)
+loaded_first false loads stores (Some access) e = (refl, inl e)
+loaded_first false true stores None e = (refl, inr (refl, refl))
+loaded_first false false true None e = absurd (let same : store ≡ load = same_Some store load e in cc)
+loaded_first false false false None e = absurd (none-some load e)
+
+-- one that has been accessed, or is stored to now, has been accessed then, where no point is stored
+pub accessed_then : (point loads stores : Bool) (before : Option Access) → point ≡ false → (before ≢ None) ⊎ (stores ≡ true) →
+    then_first point loads stores before ≢ None
+accessed_then true loads stores before none some e = true≢false none
+accessed_then false loads stores (Some access) none some e = none-some access (sym e)
+accessed_then false true stores None none some e = none-some load (sym e)
+accessed_then false false true None none some e = none-some store (sym e)
+accessed_then false false false None none some e = elim some [
+  | inl there ↦ there refl
+  | inr stores ↦ true≢false (sym stores)
+]
+
+-- a load that is made of the byte
+pub record IsLoadOf (byte : ℕ) (effect : Effect) : Type 0 where
+  pub address : ℕ
+  pub bytes : ℕ
+  pub signed : Bool
+  pub register : ℕ
+  pub is : effect ≡ Loads address bytes signed register
+  pub from : address ≤ byte
+  pub to : byte < address + bytes
+
+among : (address bytes byte : ℕ) → is_among address bytes byte ≡ true → (address ≤ byte) × (byte < address + bytes)
+among address bytes byte is = grind (arith, nat_tests, and_parts)
+
+pub is_among_by : (address bytes byte : ℕ) → address ≤ byte → byte < address + bytes → is_among address bytes byte ≡ true
+is_among_by address bytes byte from to = grind (arith, nat_tests, and_from)
+
+pub loads_it : (byte : ℕ) (effect : Effect) → loads_from byte effect ≡ true → IsLoadOf byte effect
+loads_it byte (Loads address bytes signed register) e =
+    let within = among address bytes byte e in
+    record { address = address; bytes = bytes; signed = signed; register = register; is = refl; from = within.0; to = within.1 }
+loads_it byte (Stores address bytes value) e = absurd (true≢false (sym e))
+loads_it byte (Continues registers pc) e = absurd (true≢false (sym e))
+loads_it byte (Cleans address) e = absurd (true≢false (sym e))
+loads_it byte Fences e = absurd (true≢false (sym e))
+loads_it byte Calls e = absurd (true≢false (sym e))
 
 -- ---- What is durable stays so, and no position is lost
 

@@ -14,16 +14,19 @@ use Rattle.crash_simulation.proofs.Common.{IsOnFragment, on_machine, Keeps, Asks
 use Rattle.crash_simulation.proofs.Common.{AbstractRun, kept_of, is_bound, was_unlocked, Site, FragmentsStep, nothing_released, is_nearer, MayStore, nothing}
 use Rattle.crash_simulation.proofs.Common.{in_log, goes, OnFragmentNow, IsSoon, beyond, System, IsSystem, flat_of, shapes_of, places_of, ThreadGhost}
 use Rattle.crash_simulation.proofs.Common.{on_fragment, InPhase, ThreadInv, ExitInv, InFragment, is_reached, is_ahead, IsFlushed}
-use Rattle.crash_simulation.proofs.Common.{is_fence, finishes_fence, boundary_fences, AreFencesCounted, log_stays, last_store_after, IsWordOf, recorded_in}
+use Rattle.crash_simulation.proofs.Common.{is_fence, finishes_fence, boundary_fences, AreFencesCounted, log_stays}
+use Rattle.crash_simulation.proofs.Common.{last_store_after, first_access_after, IsWordOf, recorded_in}
+use Rattle.crash_simulation.proofs.Common.{AnswersJustRead, MarkedEnvironment}
 use Rattle.ido_base.specs.Growth as growth
 use Rattle.hart_runs.specs.RunSteps as steps
 use Rattle.thread_runs.specs.Laws as runs
 use Rattle.crash_simulation.proofs.BoundaryFences.{same_fences, next_fences}
-use Rattle.crash_simulation.proofs.CompletedEffects.{last_by, last_store_is, step_durable, step_last, stores_none}
+use Rattle.crash_simulation.proofs.ReadBytes.{AreAnswered, passed_answers, reads_after}
+use Rattle.crash_simulation.proofs.CompletedEffects.{last_by, makes_access, last_store_is, step_durable, step_last, stores_none}
 use Rattle.crash_simulation.proofs.LogWords.{stored_for}
 use Rattle.crash_simulation.proofs.OwnHartSteps.{step_to, view, StepOf, own_step, held_still}
 use Rattle.crash_simulation.proofs.PendingFlushes.{Passage, StillComes, run_after, stored_same, fence_settles}
-use Rattle.crash_simulation.proofs.ThreadViews.{IsStill, committed_on, exit_on, log_moved, moves_at}
+use Rattle.crash_simulation.proofs.ThreadViews.{IsStill, committed_on, exit_on, goes_on, log_moved, moves_at}
 use Rattle.crash_simulation.proofs.Elements.{room, word_of_element, position_within}
 use Rattle.crash_simulation.proofs.LastReleases.{holders_stay_none, and_none}
 use Rattle.crash_simulation.proofs.UncommittedSteps.{leads_on}
@@ -64,6 +67,12 @@ words_same effect old new none c = grind (arith, nat_tests)
 
 pub held_up_stores_none : (effect : Effect) (queue : List Entry) → steps.IsHeldUp queue effect → is_store effect ≡ false
 held_up_stores_none effect queue h = grind (arith, nat_tests)
+
+pub held_up_accesses_none : (effect : Effect) (queue : List Entry) → steps.IsHeldUp queue effect → makes_access effect ≡ false
+held_up_accesses_none effect queue h = grind (arith, nat_tests)
+
+held_up_answered : (z : MarkedEnvironment) (effect : Effect) (queue : List Entry) → steps.IsHeldUp queue effect → AreAnswered z effect
+held_up_answered z effect queue h = grind (arith, nat_tests)
 
 -- ---- Lines
 
@@ -150,6 +159,7 @@ module _ {y : System} {s : IsSystem y} {w : World} {h : ℕ} (site : Site y s w 
     cleans = cleans;
     before_mark = c.before_mark - 1;
     last_stores = λ word. last_store_after y.runs.program w (Step n) n word (c.last_stores word);
+    first_accesses = λ byte. first_access_after y.runs.program w (Step n) n byte (c.first_accesses byte);
   }
 
   -- what is counted of the step, where this is ahead of the boundary then
@@ -168,6 +178,7 @@ module _ {y : System} {s : IsSystem y} {w : World} {h : ℕ} (site : Site y s w 
     reach : (j position : ℕ) → PersistsThrough w.words fragment.on.hart.queue j position → PersistsThrough v.words on.on.hart.queue j position
     effect : Effect
     next : IsNext y.runs.program w n fragment.on.hart effect
+    answered : AreAnswered o.environment effect
     holders : v.holders ≡ w.holders
 
   -- what of the boundary and of the store's cleans is ahead then
@@ -232,8 +243,23 @@ module _ {y : System} {s : IsSystem y} {w : World} {h : ℕ} (site : Site y s w 
     still : IsStill b.config next.config n c new
     still = grind arith
 
+    just_read : AnswersJustRead y next n new o.environment
+    just_read address bytes value e =
+        let j = o.just_read address bytes value e in
+        record { variable = j.variable; number = j.number; at = j.at; goes = goes_on y still j.goes; step = j.step; last = j.last; read = j.read }
+
     fragment_after : InFragment y v next code new hart graph_thread exit d.more
-    fragment_after = grind (arith, exit_on, fragment, nearer, still)
+    fragment_after = record {
+      environment = o.environment;
+      answers = o.answers;
+      just_read = just_read;
+      side = o.side;
+      at_side = o.at_side;
+      fragment = subst (FragmentIn v d.more) ahead.later_is d.on;
+      fits = exit_on y still graph_thread exit o.fits;
+      soon = subst (λ (es : List Effect). IsSoon y n (c.before_mark - 1) (steps_left d.more (seen_effects es) hart.queue
+          + beyond y.plan places exit graph_thread.at)) ahead.later_is nearer.1;
+    }
 
     in_log_then : (word : ℕ) → IsWordOf w.log n c.new word → IsWordOf v.log n c.new word
     in_log_then word among = subst (λ (l : Log). IsWordOf l n c.new word) (sym (log_stays y.runs.program w (Step n) sound)) among
@@ -254,6 +280,10 @@ module _ {y : System} {s : IsSystem y} {w : World} {h : ℕ} (site : Site y s w 
           (λ u e f un few. settled u e un few f) refl (step_durable y.runs.program w n sound)
           (λ word position is. ⊎_elim (λ was. inl was) (λ own. inr (in_log_then word own.0, own.1)) (lasts word position is))
           (λ word position among low. recorded_in (in_log_then word among) (step_last y.runs.program w n sound word position low)) t.stored;
+      has_read = reads_after passage
+          (record { hart = fragment.on.hart; effect = d.effect; is_next = d.next; environment = o.environment; answered = d.answered; just = just_read })
+          t.has_read bound (omega arith) (omega arith) (λ byte. refl) points
+          (λ variable number address bytes byte unbound writes at from to. inl writes);
     }
 
     step_made : StepOf site n
@@ -277,6 +307,7 @@ module _ {y : System} {s : IsSystem y} {w : World} {h : ℕ} (site : Site y s w 
         fences = fences;
         nears = is_nearer nearer.0;
         last = λ word. refl;
+        accesses = λ byte. refl;
       };
       released = nothing_released (holders_stay_none y.runs.program w n d.holders) refl;
     }
@@ -332,6 +363,7 @@ module _ {y : System} {s : IsSystem y} {w : World} {h : ℕ} (site : Site y s w 
             (drains_reach y.runs.program w n run d j position r);
         effect = d.effect;
         next = next_is d.effect d.effect_is;
+        answered = held_up_answered o.environment d.effect fragment.on.hart.queue d.held_up;
         holders = ap (λ (z : World). z.holders) d.world;
       } in
       step_made does (all_ahead does refl) persisted (still_moves does none) (settled_still persisted c.rest refl) (nothing d.effect none)
@@ -357,6 +389,7 @@ module _ {y : System} {s : IsSystem y} {w : World} {h : ℕ} (site : Site y s w 
           (forward_reaches y.runs.program w n run g.forward j position r);
       effect = effect;
       next = next_is effect g.forward.effect_is;
+      answered = passed_answers o.environment _ g.forward.by effect g.forward.leads;
       holders = ap (λ (z : World). z.holders) g.forward.world;
     }
 

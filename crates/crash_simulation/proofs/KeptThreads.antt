@@ -14,14 +14,15 @@ use Rattle.crash_simulation.proofs.Common.{others_keep_fragments, others_keep_co
 use Rattle.crash_simulation.proofs.Common.{kept_of, now_of, attempts_of, StepsOrStutters, stays, goes, IsDoneBy, abstract_next, System, IsSystem, flat_of}
 use Rattle.crash_simulation.proofs.Common.{shapes_of, ThreadGhost, on_fragment, at_core, InPhase, ThreadInv, IsRunningThread, AnswersGuarded, is_reached}
 use Rattle.crash_simulation.proofs.Common.{is_ahead, IsComing, IsFlushed, HasStored, durable_there, comes_with, recorded_in, IsWordOf, record_kept}
-use Rattle.crash_simulation.proofs.Common.{Log, last_position, word_at}
+use Rattle.crash_simulation.proofs.Common.{AnswersJustRead, Element, HasRead, IsReadAt, Log, last_position, word_at}
+use Rattle.flow_graph.specs.Paths.{element}
 use Rattle.crash_simulation.proofs.CompletedEffects.{others_last}
 use Rattle.recovery_semantics.specs.Events.{Stores}
 use Rattle.c_tree.specs.Flats as f
 use Rattle.c_tree.specs.Source as m
 use Rattle.flow_graph.proofs.Public as keeping
 use Rattle.crash_simulation.proofs.StatesMatchSource.{resumed}
-use Rattle.crash_simulation.proofs.ThreadViews.{IsQuiet, IsStill, clean_on, committed_on, exit_on, log_moved, rests_on}
+use Rattle.crash_simulation.proofs.ThreadViews.{IsQuiet, IsStill, clean_on, committed_on, exit_on, goes_on, log_moved, rests_on}
 
 -- ---- A step of one thread leaves the others where they are
 
@@ -189,6 +190,8 @@ module _ (y : System) (b next : AbstractRun y) (code : Code y.plan) (c : ThreadG
     pub since : (v e position : ℕ) → Writes b.config.kept n (attempt_of b.config n).done v e →
         IsSince (history_at b.config.memory v e) position → IsSince (history_at next.config.memory v e) position
     pub durable : (v e : ℕ) → (history_at b.config.memory v e).durable ≤ (history_at next.config.memory v e).durable
+    pub reads : (k : ℕ) (one : Element) → k < (attempt_of b.config n).done → IsReadAt (flat_of y) (kept_of y b) b.config.kept n k one →
+        IsReadAt (flat_of y) (kept_of y next) next.config.kept n k one
 
   -- ---- Its invariant
 
@@ -199,6 +202,49 @@ module _ (y : System) (b next : AbstractRun y) (code : Code y.plan) (c : ThreadG
     cleaned_back : (first line : ℕ) → CleansSince (attempts_of y next) n first (attempt_of next.config n).done line →
         CleansSince (attempts_of y b) n first (attempt_of b.config n).done line
     cleaned_back first line cleans = grind arith
+
+    -- what it has read
+    read_on : (giving : Option ℕ) (before_mark : ℕ) → HasRead y b n c → HasRead y next n (record c { giving = giving; before_mark = before_mark })
+    read_on giving before_mark reads = record {
+      read = λ byte is.
+          let r = reads.read byte is in
+          record {
+            variable = r.variable;
+            number = r.number;
+            address = r.address;
+            bytes = r.bytes;
+            at = r.at;
+            from = r.from;
+            to = r.to;
+            step = r.step;
+            below = omega (arith, r.below, still.on.done);
+            read = still.reads r.step (element r.variable r.number) r.below r.read;
+            unwritten = λ writes.
+                let sooner = writes.within in
+                r.unwritten (record {
+                  before = writes.before;
+                  within = writes.within;
+                  at = still.writes_back writes.before r.variable r.number (omega (arith, r.below, sooner)) writes.at;
+                });
+            unbound = r.unbound;
+          };
+      written = λ unbound variable number address bytes byte writes.
+          reads.written unbound variable number address bytes byte (written_back variable number writes);
+    }
+
+    -- what its environment answers has just been read
+    just_read_on : (z : MarkedEnvironment) → AnswersJustRead y b n c z → AnswersJustRead y next n c z
+    just_read_on z just address bytes value e =
+        let j = just address bytes value e in
+        record {
+          variable = j.variable;
+          number = j.number;
+          at = j.at;
+          goes = goes_on y still.on j.goes;
+          step = j.step;
+          last = j.last ∙ sym still.on.done;
+          read = still.reads j.step (element j.variable j.number) (omega (arith, j.last)) j.read;
+        }
 
     module _ (w v : World)
         (reach : (queue : List Entry) (j position : ℕ) → PersistsThrough w.words queue j position → PersistsThrough v.words queue j position)
@@ -253,6 +299,7 @@ module _ (y : System) (b next : AbstractRun y) (code : Code y.plan) (c : ThreadG
         walks = still.graph_thread ∙ t.walks;
         phase = phase;
         stored = stored_on t.log.hart m.next queue m.log giving before_mark t.stored;
+        has_read = read_on giving before_mark t.has_read;
       }
 
     module _ (w v : World) (left : IsLeftAlone y w v b code c) where
@@ -260,6 +307,7 @@ module _ (y : System) (b next : AbstractRun y) (code : Code y.plan) (c : ThreadG
       runs_on hart graph_thread (on_fragment exit steps o) = on_fragment exit steps (record {
         environment = o.environment;
         answers = answers_kept y (now b.config) (now next.config) n still.guards o.environment o.answers;
+        just_read = just_read_on o.environment o.just_read;
         side = o.side;
         at_side = o.at_side;
         fragment = fragments_see_all y.plan code.thread code.is.places y.runs.program v n o.environment _ steps _ (now_of y next).variables
@@ -311,8 +359,12 @@ module _ (y : System) (b : AbstractRun y) (code : Code y.plan) (c : ThreadGhost)
     solo_same : solo next.kept n (attempt_of next n).done ≡ solo b.config.kept n (attempt_of b.config n).done
     solo_same = λ i. solo (still.kept i) n (done_same i)
 
+    reads_still : (k : ℕ) (one : Element) → k < (attempt_of b.config n).done → IsReadAt (flat_of y) (kept_of y b) b.config.kept n k one →
+        IsReadAt (flat_of y) (kept_of y b) next.kept n k one
+    reads_still k one within r = subst (λ (z : m.State). IsReadAt (flat_of y) (kept_of y b) z n k one) (sym still.kept) r
+
     is_kept : IsKept y b (abstract_next y b next execution respects) code c
-    is_kept = grind (arith, held_same, begun_after, done_same, solo_same)
+    is_kept = grind (arith, held_same, begun_after, done_same, solo_same, reads_still)
 
   -- ---- In the machine
 

@@ -2,6 +2,7 @@ pub mod Public
 mod Common
 mod BoundaryFences
 mod WorkedStores
+mod WorkedAccesses
 mod CompletedEffects
 mod LogWords
 mod StatesMatchSource
@@ -33,6 +34,7 @@ mod NodeEnvironments
 mod ThreadViews
 mod OwnHartSteps
 mod PendingFlushes
+mod ReadBytes
 mod WriteBackSteps
 mod MarkSteps
 mod MarksAtNodes

@@ -25,7 +25,7 @@ use Rattle.crash_simulation.proofs.RecordsAfterCrash.{over_is_caught}
 use Rattle.crash_simulation.proofs.StepsAfterMarks.{entry_soon}
 use Rattle.crash_simulation.proofs.ChosenNodes.{plain_unless_pending}
 use Rattle.crash_simulation.proofs.GraphAfterBegin.{matches_now}
-use Rattle.crash_simulation.proofs.LoadFreeEnvironment.{bare, bare_agrees, bare_meets, bare_answers}
+use Rattle.crash_simulation.proofs.LoadFreeEnvironment.{bare, bare_agrees, bare_meets, bare_answers, bare_just_read}
 use Rattle.region_attempts.specs.Laws.{HoldsNothing}
 use Rattle.crash_simulation.proofs.SimulationAtStart.{resting_ghost, resting_thread}
 
@@ -146,6 +146,7 @@ module _ (y : System) (s : IsSystem y) (o : Origin (flat_of y)) (v : World) (lif
       record {
         environment = bare y s v n below;
         answers = bare_answers y s v n below (now abstract.config);
+        just_read = bare_just_read y s v n below abstract (ghosts n);
         side = 0;
         at_side = λ none. absurd (none refl);
         fragment =

@@ -29,7 +29,7 @@ use Rattle.crash_simulation.proofs.BoundaryFences.{same_fences}
 use Rattle.crash_simulation.proofs.LifeAccounts.{all_between}
 use Rattle.crash_simulation.specs.AbstractRuns.{now_of}
 use Rattle.crash_simulation.specs.BoundaryPassages.{graph_anew}
-use Rattle.crash_simulation.specs.InstructionSteps.{is_bound}
+use Rattle.crash_simulation.specs.ThreadGhosts.{is_bound}
 use Rattle.crash_simulation.proofs.BoundaryPassages.{passages_ahead, points_ahead}
 use Rattle.crash_simulation.proofs.LifeBeginnings.{BeginsLife, life_stands}
 use Rattle.crash_simulation.proofs.FirstPassages.{first_even}
@@ -81,8 +81,9 @@ module _ (y : System) (s : IsSystem y) (w : World) (old : Simulates y s w) where
     -- no boundary is under way of a hart that has stopped
     pub fences : (n : ℕ) → n < thread_count y →
         AreFencesCounted (boundary_fences y.plan.log) false false (old.ghosts n).rest (next.ghosts n).rest
-    -- no hart has stored yet in the life that begins
+    -- no hart has stored or loaded yet in the life that begins
     pub last : (n word : ℕ) → (next.ghosts n).last_stores word ≡ (if may then None else (old.ghosts n).last_stores word)
+    pub accesses : (n byte : ℕ) → (next.ghosts n).first_accesses byte ≡ (if may then None else (old.ghosts n).first_accesses byte)
 
   -- ---- Another life begins
 
@@ -159,6 +160,7 @@ module _ (y : System) (s : IsSystem y) (w : World) (old : Simulates y s w) where
     anew = λ begins. life_anew is;
     fences = life_fences is;
     last = λ n word. refl;
+    accesses = λ n byte. refl;
   }
   starts false is = record {
     next = old;
@@ -168,6 +170,7 @@ module _ (y : System) (s : IsSystem y) (w : World) (old : Simulates y s w) where
     anew = λ begins. absurd (true≢false (sym begins));
     fences = λ n below. same_fences (boundary_fences y.plan.log) false false (old.ghosts n).rest refl refl;
     last = λ n word. refl;
+    accesses = λ n byte. refl;
   }
 
   pub start_goes : StartsTo (can_start w) (after_event program w Start)

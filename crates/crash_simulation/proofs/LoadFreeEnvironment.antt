@@ -2,7 +2,7 @@
 use Rattle.crash_simulation.proofs.Common.{◌≡◌, ℕ, List, ◌∷◌, sym, arith, subst, false, refl, ◌+◌, ◌<◌, [], length, Bool, ◌*◌, ◌^◌, slice_index_or}
 use Rattle.crash_simulation.proofs.Common.{cond-true, nat_tests, none-some, State, World, Effect, Program, MarkedEnvironment, Meets, seen_effects, Agrees}
 use Rattle.crash_simulation.proofs.Common.{environment_of, IsOnFragment, on_machine, Stage, ReadsVariables, IsPlaced, plans_are_placed, Code, System, IsSystem}
-use Rattle.crash_simulation.proofs.Common.{thread_count, IsOwnCode, AnswersGuarded}
+use Rattle.crash_simulation.proofs.Common.{thread_count, IsOwnCode, AbstractRun, ThreadGhost, AnswersGuarded, AnswersJustRead}
 
 -- ---- A thread's code is met where it stands
 
@@ -33,6 +33,9 @@ module _ (y : System) (s : IsSystem y) (w : World) (n : ℕ) (below : n < thread
 
   pub bare_answers : (state : State) → AnswersGuarded y state code.thread.number bare
   bare_answers state address bytes value e = absurd (none-some value e)
+
+  pub bare_just_read : (b : AbstractRun y) (c : ThreadGhost) → AnswersJustRead y b code.thread.number c bare
+  bare_just_read b c address bytes value e = absurd (none-some value e)
 
   pub bare_reads : ReadsVariables bare
   bare_reads address bytes value e = absurd (none-some value e)

@@ -4,13 +4,13 @@ use Rattle.crash_simulation.proofs.Common.{nat_tests, none-some, Guards, element
 use Rattle.crash_simulation.proofs.Common.{reads_of, store_ahead, WritesAt, IsInnerStep, now, attempt_of, begun, ConfigStep, steps_locally, memory_in, HasCome}
 use Rattle.crash_simulation.proofs.Common.{stores_nothing, MarksPass, AbstractRun, kept_of, now_of, nothing, System, IsSystem, flat_of, places_of}
 use Rattle.flow_graph.specs.Actions.{Effect}
-use Rattle.crash_simulation.proofs.Common.{durable_there, comes_with, recorded_in}
+use Rattle.crash_simulation.proofs.Common.{durable_there, comes_with, recorded_in, inl, inr, subst, Writes}
 use Rattle.crash_simulation.proofs.CompletedEffects.{last_by, step_durable, stores_none}
 use Rattle.crash_simulation.proofs.PendingFlushes.{ComesNow}
 use Rattle.crash_simulation.proofs.NodeEffects.{is_quiet, source_steps, locks_none, unlocks_none, ahead_none}
-use Rattle.crash_simulation.proofs.ConfigAfterBegin.{one_longer, attempted, alone_ahead}
+use Rattle.crash_simulation.proofs.ConfigAfterBegin.{one_longer, attempted, alone_ahead, done_longer, wrote}
 use Rattle.crash_simulation.proofs.GraphAfterBegin.{matches_now, follows_on, not_come}
-use Rattle.crash_simulation.proofs.NodeEnvironments.{reads_variables, answers_guarded, guards_here, answered_here}
+use Rattle.crash_simulation.proofs.NodeEnvironments.{reads_variables, answers_guarded, guards_here, answered_here, just_read}
 use Rattle.crash_simulation.proofs.OwnHartSteps.{view, StepOf, AtNode}
 use Rattle.crash_simulation.proofs.MarksAtNodes.{IsUnseen, unseen, quiet_may, quiet_seen, quiet_free, Doing, MarkIn, AtMark, Passes, environment, in_graph}
 use Rattle.crash_simulation.proofs.MarksAtNodes.{graph_step_is, at_some_mark}
@@ -142,6 +142,13 @@ module _ {y : System} {s : IsSystem y} {w : World} {h : ℕ} (site : AtNode y s 
           | durable_there low ↦ durable_there (step_durable y.runs.program w n site.hart.stands.machine.sound word position low)
           | comes_with u i f at low ↦ comes_with u i (flushed_on site passed u i (λ position since. since) no_clean f) at low
           | recorded_in among low ↦ passed_record site passed word position among low
+        ])
+        (just_read site node at next (passing.new site passed) (passing.goes_next site passed) (sym (done_longer b.config n)) (λ one r. r))
+        (λ variable number address bytes byte unbound writes element_at from to.
+        elim (wrote b.config.kept n (attempt_of b.config n).done variable number
+        (subst (λ (k : ℕ). Writes b.config.kept n k variable number) (done_longer b.config n) writes)) [
+          | inl old ↦ inl old
+          | inr at_once ↦ absurd (none_written variable number at_once)
         ])
 
   pub quiet_step : MarksPass → StepOf site.hart n

@@ -13,16 +13,17 @@ use Rattle.crash_simulation.proofs.Common.{fragments_see_all, cleans_on, locks_t
 use Rattle.crash_simulation.proofs.Common.{holds_none_is, AbstractRun, kept_of, now_of, is_bound, was_unlocked, Site, nothing_released, stays, MayStore}
 use Rattle.crash_simulation.proofs.Common.{nothing, goes, OnFragmentNow, abstract_next, thread_of, begins_step, AreHeld, most_ahead, System, IsSystem}
 use Rattle.crash_simulation.proofs.Common.{thread_count, flat_of, places_of, ThreadGhost, on_fragment, InPhase, ThreadInv, GoesClean, InFragment}
-use Rattle.crash_simulation.proofs.Common.{finishes_fence, boundary_fences, AreFencesCounted, last_store_after, config_of, durable_there}
+use Rattle.crash_simulation.proofs.Common.{finishes_fence, boundary_fences, AreFencesCounted, last_store_after, first_access_after, config_of, durable_there}
 use Rattle.crash_simulation.specs.InstructionSteps as moving
 use Rattle.crash_simulation.proofs.BoundaryFences.{begins_fences, same_fences}
 use Rattle.log_states.proofs.Public.{ends}
-use Rattle.crash_simulation.proofs.CompletedEffects.{last_by, step_durable}
+use Rattle.crash_simulation.proofs.CompletedEffects.{accessed_by, last_by, step_durable}
+use Rattle.crash_simulation.proofs.ReadBytes.{none_bound, reads_same}
 use Rattle.crash_simulation.proofs.LogWords.{recorded_settled}
 use Rattle.crash_simulation.proofs.LastReleases.{no_release, holders_stay_none, none_leaving, and_none}
 use Rattle.crash_simulation.proofs.StatesMatchSource.{resumed, kept_matches, orderly, now_orderly, now_good}
 use Rattle.crash_simulation.proofs.Boundaries.{after_lock_in, IsBeginning, BoundaryIsRecoverable, boundaries_begin}
-use Rattle.crash_simulation.proofs.LoadFreeEnvironment.{bare, bare_answers, bare_reads, placed, none_ahead, resettled}
+use Rattle.crash_simulation.proofs.LoadFreeEnvironment.{bare, bare_answers, bare_just_read, bare_reads, placed, none_ahead, resettled}
 use Rattle.crash_simulation.proofs.LocksAtCalls.{locks_it, mutex_there, taken, takes_it, source_takes}
 use Rattle.crash_simulation.proofs.PendingFlushes.{Passage, stored_same, still_reached, reaches_same}
 use Rattle.crash_simulation.proofs.OwnHartSteps.{log_begins, step_to, view, StepOf, held_still, own_giving, locks_to}
@@ -125,6 +126,9 @@ module _ {y : System} {s : IsSystem y} {w : World} {h : ℕ} {exit : ExitPoint} 
     pub last_still : (word : ℕ) → c.last_stores word ≡ last_store_after y.runs.program w (Step n) n word (c.last_stores word)
     last_still word = last_by y.runs.program w n word (c.last_stores word) a.hart Calls calls_next refl
 
+    pub accesses_still : (byte : ℕ) → c.first_accesses byte ≡ first_access_after y.runs.program w (Step n) n byte (c.first_accesses byte)
+    accesses_still byte = accessed_by y.runs.program w n byte (c.first_accesses byte) a.hart Calls calls_next refl
+
     pub call_elsewhere : IsElsewhere y.runs.program w n n
     call_elsewhere = stores_nothing y.runs.program w n n a.hart Calls calls_next refl
 
@@ -201,6 +205,7 @@ module _ {y : System} {s : IsSystem y} {w : World} {h mutex next : ℕ} (at : At
           fences = fences_still at at_lock;
           nears = moving.waits mutex holder l.0 refl;
           last = last_still at at_lock;
+          accesses = accesses_still at at_lock;
         };
         released = nothing_released (holders_stay_none y.runs.program w n (ap (λ (x : World). x.holders) still)) refl;
       }
@@ -337,6 +342,7 @@ module _ {y : System} {s : IsSystem y} {w : World} {h mutex next : ℕ} (at : At
     then_fragment = record {
       environment = z at;
       answers = bare_answers y s w h at.site.below (now then_abstract.config);
+      just_read = bare_just_read y s w h at.site.below then_abstract then_ghost;
       side = side_after b_next at.o.side;
       at_side = side_follows b_next at.o.side resume asks.registers begins_there.recoverable;
       fragment = fragments_see_all y.plan code.thread places y.runs.program v n (z at)
@@ -381,6 +387,8 @@ module _ {y : System} {s : IsSystem y} {w : World} {h mutex next : ℕ} (at : At
           (λ word position among low.
           let settled = recorded_settled w.log n c.new w.words (ends w.log n c.old c.new (config_of w t.log.hart c.rest) t.log.log (rest_over at)) word among in
           durable_there (step_durable y.runs.program w n at.site.stands.machine.sound word position (omega (arith, low, settled)))) t.stored;
+      has_read = reads_same passage (λ byte. refl) (none_bound c goes_clean.goes.committed)
+          (ap not (boundary_stores b_next at.o.side resume asks.registers)) refl t.has_read;
     }
 
     takes_mutex : StepOf at.site n
@@ -409,6 +417,7 @@ module _ {y : System} {s : IsSystem y} {w : World} {h mutex next : ℕ} (at : At
             (boundaries_fence b_next at.o.side resume asks.registers) (boundary_stores b_next at.o.side resume asks.registers));
         nears = begins_step refl;
         last = last_still at at_lock;
+        accesses = accesses_still at at_lock;
       };
       released = nothing_released (no_release y.runs.program w n (λ none. absurd (holds_none_is n v.holders mutex none
           (ap (λ (hs : List (Option ℕ)). slice_get hs mutex) (holders_after at moving_hart) ∙ get-set_same w.holders mutex (Some n) None free))))

@@ -8,6 +8,11 @@ use Rattle.crash_simulation.proofs.Common.{Ends, IsOnFragment, on_machine, Stage
 use Rattle.crash_simulation.proofs.Common.{now_of, is_bound, nothing_released, MayStore, goes, IsDoneBy, begins_step, is_begun, most_ahead, beyond, System}
 use Rattle.crash_simulation.proofs.Common.{IsSystem, flat_of, places_of, ThreadGhost, on_fragment, InPhase, ThreadInv, ExitInv, AnswersGuarded, IsFlushed}
 use Rattle.crash_simulation.proofs.Common.{IsInAttempt, ◌<◌, steps_begun, counted_own, IsOnItsWay, last_store_after}
+use Rattle.crash_simulation.proofs.Common.{first_access_after, AnswersJustRead, HasRead, ◌⊎◌, ◌&&◌}
+use Rattle.machine_model.specs.Schedule.{completes}
+use Rattle.crash_simulation.specs.Accesses.{stores_to}
+use Rattle.crash_simulation.specs.ThreadGhosts.{IsElementAt}
+use Rattle.crash_simulation.proofs.ReadBytes.{passed_answers, reads_after}
 use Rattle.crash_simulation.proofs.Common.{last_position, word_at, Log, log_stays, IsWordOf, recorded_in}
 use Rattle.crash_simulation.proofs.CompletedEffects.{step_last}
 use Rattle.crash_simulation.proofs.Common.{is_fence, finishes_fence, stores_point, Step, boundary_fences, AreFencesCounted}
@@ -99,6 +104,7 @@ module _ {y : System} {s : IsSystem y} {w : World} {h : ℕ} (site : AtNode y s 
   module _ (o : Passing) where
     abbrev pub new : ThreadGhost
     new = going c o.cleans (most_ahead y n) (λ word. last_store_after y.runs.program w (Step n) n word (c.last_stores word))
+        (λ byte. first_access_after y.runs.program w (Step n) n byte (c.first_accesses byte))
 
     open o.passes.on.on use {hart as later_hart}
 
@@ -145,7 +151,7 @@ module _ {y : System} {s : IsSystem y} {w : World} {h : ℕ} (site : AtNode y s 
           | inr at_once ↦ absurd (none at_once)
         ]
 
-    goes_next : IsInAttempt y next.config n new
+    pub goes_next : IsInAttempt y next.config n new
     goes_next = record { going = goes_still b.config n o.memory site.core.goes.goes.going; rest = refl; giving = refl; committed = refl }
 
     begun_next : 0 < steps_begun next.config n
@@ -165,7 +171,11 @@ module _ {y : System} {s : IsSystem y} {w : World} {h : ℕ} (site : AtNode y s 
 
     module _ (answers : AnswersGuarded y (now next.config) n (environment site o.mark.doing))
         (flushed : (u i : ℕ) → Writes next.config.kept n (attempt_of next.config n).done u i → IsFlushed y v next code new later_hart u i)
-        (last : (word position : ℕ) → new.last_stores word ≡ Some position → IsOnItsWay y v next code new later_hart word position) where
+        (last : (word position : ℕ) → new.last_stores word ≡ Some position → IsOnItsWay y v next code new later_hart word position)
+        (just_read : AnswersJustRead y next n new (environment site o.mark.doing))
+        (stored : (variable number address bytes byte : ℕ) → is_bound new ≡ false → Writes b.config.kept n (attempt_of next.config n).done variable number →
+        IsElementAt y variable number address bytes → address ≤ byte → byte < address + bytes →
+        Writes b.config.kept n (attempt_of b.config n).done variable number ⊎ (completes (stores_to byte) y.runs.program w (Step n) n ≡ true)) where
       abbrev FragmentTo : Stage → List Effect → Type 0
       FragmentTo stage effects =
           IsOnFragment y.plan code.thread places (on_machine y.runs.program v n (environment site o.mark.doing)) stage o.mark.mark.steps effects
@@ -191,6 +201,7 @@ module _ {y : System} {s : IsSystem y} {w : World} {h : ℕ} (site : AtNode y s 
           (on_fragment (exit_after effect) o.mark.mark.steps (record {
             environment = environment site o.mark.doing;
             answers = answers;
+            just_read = just_read;
             side = site.core.side;
             at_side = site.core.at_side;
             fragment = fragment;
@@ -198,16 +209,35 @@ module _ {y : System} {s : IsSystem y} {w : World} {h : ℕ} (site : AtNode y s 
             soon = (soon_after, omega arith);
           }))
 
+      points : stores_point y.runs.program w (Step n) n ≡ (not (is_bound c) && is_bound new)
+      points = o.passes.point ∙ o.no_point ∙ sym (and_none (not (is_bound c)))
+
+      bound : is_bound c ≡ true → is_bound new ≡ true
+      bound is = absurd (not_bound c site.core.goes.goes.committed is)
+
+      has_read : HasRead y next n new
+      has_read =
+          let longer = done_longer b.config n in
+          reads_after passage (record {
+            hart = o.mark.mark.at.on.hart;
+            effect = o.passes.forward.effect;
+            is_next = is_next site o.mark o.passes;
+            environment = environment site o.mark.doing;
+            answered = passed_answers (environment site o.mark.doing) _ o.passes.forward.by o.passes.forward.effect o.passes.forward.leads;
+            just = just_read;
+          }) t.has_read bound (omega (arith, longer)) (omega (arith, longer)) (λ byte. refl) points stored
+
       abbrev own : ThreadInv y v next code new
       own =
           let log = log_going site o.elsewhere later_hart o.passes.on.on.here in
           record {
             log = log;
-            records = records_going site next refl o.cleans (most_ahead y n) new.last_stores log;
+            records = records_going site next refl o.cleans (most_ahead y n) new.last_stores new.first_accesses log;
             graph_thread = then_thread;
             walks = ap (λ (z : FlowState). slice_get z.graph_threads n) state ∙ graph_thread_is (now_of y b) n graph_thread effect t.walks;
             phase = phase;
             stored = record { cleans = o.clean; flushed = flushed; last = last };
+            has_read = has_read;
           }
 
       pub passed_step : StepOf site.hart n
@@ -226,14 +256,15 @@ module _ {y : System} {s : IsSystem y} {w : World} {h : ℕ} (site : AtNode y s 
         counted = record {
           marks = o.passes.mark y.runs.marks refl ∙ sym o.is_step;
           unlocked = λ mutex gives. absurd (none-some mutex gives);
-          points = o.passes.point ∙ o.no_point ∙ sym (and_none (not (is_bound c)));
-          bound = λ bound. absurd (not_bound c site.core.goes.goes.committed bound);
+          points = points;
+          bound = bound;
           fences =
               subst (λ (rest : List Effect). AreFencesCounted (boundary_fences y.plan.log) (finishes_fence y.runs.program w (Step n) n)
               (stores_point y.runs.program w (Step n) n) rest []) (sym site.core.goes.goes.rest)
               (same_fences (boundary_fences y.plan.log) _ _ [] (o.passes.fence ∙ o.no_fence) (o.passes.point ∙ o.no_point));
           nears = begins_step o.is_step;
           last = λ word. refl;
+          accesses = λ byte. refl;
         };
         released =
             nothing_released (holders_stay_none y.runs.program w n (holders_stay site o.mark o.passes)) (sym (none_leaving c site.core.goes.goes.giving));

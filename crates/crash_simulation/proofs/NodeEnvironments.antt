@@ -6,7 +6,8 @@ use Rattle.crash_simulation.proofs.Common.{Holds-reduced, Same-reduced, residue-
 use Rattle.crash_simulation.proofs.Common.{NodeAt, lowered, Node, Element, reads_of, HaveRoom, spots_of, addresses_reach, now, history_at, number_at, Memory}
 use Rattle.crash_simulation.proofs.Common.{live_number, IsAtSpot, memory_loaded, ReadsHere, rerun_reads_nothing_overwritten, readers_guard, MarkedEnvironment}
 use Rattle.crash_simulation.proofs.Common.{Agrees, is_width, environment_of, is_access, IsAnswered, source_of, ReadsVariables, kept_of, System, IsSystem}
-use Rattle.crash_simulation.proofs.Common.{flat_of, AnswersGuarded}
+use Rattle.crash_simulation.proofs.Common.{flat_of, AnswersGuarded, AbstractRun, AnswersJustRead, IsInAttempt, IsReadAt, ThreadGhost, attempt_of, false}
+use Rattle.crash_simulation.proofs.Common.{if◌then◌else◌, none-some, read_here, refl, suc}
 use Rattle.crash_simulation.proofs.OwnHartSteps.{view, AtNode}
 use Rattle.crash_simulation.proofs.StatesMatchSource.{cuts, resumed, now_good}
 use Rattle.crash_simulation.proofs.Loads.{reads_all, is_read, reads_there, Loaded, answered}
@@ -33,6 +34,11 @@ number_loaded k n z below is =
 
 loaded_below : (ws : List Word) (number count : ℕ) → loaded ws number count < 2 ^ (8 * count)
 loaded_below ws number count = mod-lt _ (pow_pos (8 * count))
+
+-- what is answered may be read
+may_read : (reads may : Bool) (value given : ℕ) → (if reads && may then Some given else None) ≡ Some value → reads ≡ true
+may_read true may value given e = refl
+may_read false may value given e = absurd (none-some value e)
 
 -- ---- The environment
 
@@ -98,6 +104,32 @@ module _ {y : System} {s : IsSystem y} {w : World} {h : ℕ} (site : AtNode y s 
         record {
           answer = cond-true _ (Some (loaded w.words (byte_number address) bytes)) None may ∙ ap Some number.0;
           held = number.1;
+        }
+
+    -- once the step there is begun, what it answers that reads
+    pub just_read : (next : AbstractRun y) (new : ThreadGhost) → IsInAttempt y next.config n new →
+        suc (attempt_of b.config n).done ≡ (attempt_of next.config n).done →
+        ((one : Element) → IsReadAt (flat_of y) (kept_of y b) b.config.kept n (attempt_of b.config n).done one →
+        IsReadAt (flat_of y) (kept_of y next) next.config.kept n (attempt_of b.config n).done one) → AnswersJustRead y next n new (reading ones)
+    just_read next new goes longer still address bytes value e =
+        let r = (resumed y s b).resumed in
+        let accessed = is_read vs ones address bytes
+        (may_read (reads_all vs ones address bytes) (is_access w.log (length w.harts) address bytes) value (loaded w.words (byte_number address) bytes) e) in
+        let one : Element = accessed.0 in
+        record {
+          variable = one.variable;
+          number = one.element;
+          at = record {
+            is = accessed.2.it;
+            there = accessed.2.found;
+            within = accessed.2.within;
+            address_is = accessed.2.address_is;
+            bytes_are = accessed.2.bytes_are;
+          };
+          goes = goes;
+          step = (attempt_of b.config n).done;
+          last = longer;
+          read = still one (read_here (flat_of y) b.origin b.config b.schedule n one s.plan.formed r.invariant r.kept (reads_here one accessed.1));
         }
 
     -- loads of all that it reads are answered

@@ -6,13 +6,14 @@ use Rattle.crash_simulation.proofs.Common.{memory_in, recorded_by, IsRecoverable
 use Rattle.crash_simulation.proofs.Common.{begins_standing, IsInPhase, Places, keeping, Code, Describes, AbstractRun, kept_of, now_of, begins, Site, OwnStep}
 use Rattle.crash_simulation.proofs.Common.{Releases, StepsOrStutters, with_ghost, MayStore, thread_of, IsCounted, AtCoreNow, AreHeld, System, IsSystem}
 use Rattle.crash_simulation.proofs.Common.{places_of, ThreadGhost, ThreadInv, committed, HasRecords}
+use Rattle.crash_simulation.specs.Accesses.{Access}
 use Rattle.crash_simulation.proofs.PendingFlushes.{Leads, Passage}
 use Rattle.crash_simulation.proofs.LocksAfterStep.{GoneOn, LockStep, locked_after}
 use Rattle.crash_simulation.proofs.ThreadViews.{describes_over, log_at, records_over}
 
--- the ghost state of a thread on its way between boundaries, with these cleans and steps ahead, and where its hart has stored last
-abbrev pub going : ThreadGhost → (cleans : List Effect) → (before_mark : ℕ) → (last_stores : ℕ → Option ℕ) → ThreadGhost
-going c cleans before_mark last_stores = record {
+-- the ghost state of a thread on its way between boundaries, with these cleans and steps ahead, where its hart has stored last, and what it has accessed first
+abbrev pub going : ThreadGhost → (cleans : List Effect) → (before_mark : ℕ) → (last_stores : ℕ → Option ℕ) → (first_accesses : ℕ → Option Access) → ThreadGhost
+going c cleans before_mark last_stores first_accesses = record {
   old = c.old;
   new = c.new;
   rest = [];
@@ -21,6 +22,7 @@ going c cleans before_mark last_stores = record {
   giving = None;
   before_mark = before_mark;
   last_stores = last_stores;
+  first_accesses = first_accesses;
 }
 
 -- ---- The step
@@ -148,8 +150,10 @@ module _ {y : System} {s : IsSystem y} {w : World} {h : ℕ} (site : AtNode y s 
 
   -- what it says then, where the same is kept
   pub records_going : (next : AbstractRun y) → kept_of y next ≡ kept_of y b → (cleans : List Effect) (before_mark : ℕ) (last_stores : ℕ → Option ℕ)
-      (log : LogInv n c.old c.new v []) →
-      HasRecords y next code (going c cleans before_mark last_stores) (committed v n (going c cleans before_mark last_stores) log.hart)
-  records_going next same cleans before_mark last_stores log =
-      records_over y next code (going c cleans before_mark last_stores) refl refl (ends_committed v.log n c.old c.new (config_of v log.hart []) log.log refl)
+      (first_accesses : ℕ → Option Access) (log : LogInv n c.old c.new v []) →
+      HasRecords y next code (going c cleans before_mark last_stores first_accesses)
+      (committed v n (going c cleans before_mark last_stores first_accesses) log.hart)
+  records_going next same cleans before_mark last_stores first_accesses log =
+      records_over y next code (going c cleans before_mark last_stores first_accesses) refl refl
+      (ends_committed v.log n c.old c.new (config_of v log.hart []) log.log refl)
       (subst (λ (kept : FlowState). Describes y.plan code kept c.new) (sym same) (describes_over y b code c t.records site.core.goes.goes.committed))

@@ -6,7 +6,7 @@ pub use Rattle.crash_simulation.proofs.AccountsBeforeCommit.{none_more, released
 pub use Rattle.crash_simulation.proofs.BoundaryPassages.{ArePassed, FollowsBegun, chosen_here, chosen_none, going_ahead, passages_ahead, points_ahead}
 pub use Rattle.crash_simulation.proofs.ChosenNodes.{store_there}
 pub use Rattle.crash_simulation.proofs.DisjointStores.{elsewhere, next_store}
-pub use Rattle.crash_simulation.proofs.Elements.{word_durable}
+pub use Rattle.crash_simulation.proofs.Elements.{element_ends, elements_apart, log_after, room, word_durable}
 pub use Rattle.crash_simulation.proofs.FragmentSteps.{Made, bounds_first, cleans_first, held_up_stores_none, made_by, no_effect}
 pub use Rattle.crash_simulation.proofs.LifeAccounts.{begins_at, earlier_after, from_after, kept_after, lives_are, schedule_is}
 pub use Rattle.crash_simulation.proofs.LifeBeginnings.{first_life, first_origin, life_stands, pending_free, row_of, start_simulates}
@@ -28,7 +28,7 @@ pub use Rattle.crash_simulation.proofs.ReadyHarts.{runs_ready}
 pub use Rattle.crash_simulation.proofs.RecordsAfterCrash.{between_there, left, left_describes, left_kept, left_point, log_of, settled_is_kept}
 pub use Rattle.crash_simulation.proofs.RunOrCall.{IsWhere, RunsOn, at_call, is_where, on_run}
 pub use Rattle.crash_simulation.proofs.StatesMatchSource.{as_source, kept_good, now_orderly, orderly, resumed}
-pub use Rattle.crash_simulation.proofs.StoreNodeSteps.{MakesStore, in_variables, kind_is, mark as making_mark}
+pub use Rattle.crash_simulation.proofs.StoreNodeSteps.{MakesStore, follows, in_variables, kind_is, mark as making_mark, stored_element}
 pub use Rattle.crash_simulation.proofs.ThreadCommits.{unlocked_last}
 pub use Rattle.crash_simulation.proofs.ThreadsOfMachines.{mutexes_stay, phase_of}
 pub use Rattle.crash_simulation.proofs.UnlockNodeSteps.{log_first, mark as unlocking_mark}

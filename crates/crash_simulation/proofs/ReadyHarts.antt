@@ -20,7 +20,7 @@ use Rattle.crash_simulation.specs.InstructionSteps as moving
 use Rattle.crash_simulation.proofs.LocksAfterStep.{held_alike, each_ghost, other_ghost, own_ghost}
 use Rattle.crash_simulation.proofs.BoundaryFences.{begins_fences, same_fences}
 use Rattle.crash_simulation.proofs.ThreadsOfMachines.{each_placed}
-use Rattle.crash_simulation.proofs.LoadFreeEnvironment.{bare, bare_agrees, bare_meets, bare_answers, bare_reads, placed, none_ahead, resettled}
+use Rattle.crash_simulation.proofs.LoadFreeEnvironment.{bare, bare_agrees, bare_meets, bare_answers, bare_just_read, bare_reads, placed, none_ahead, resettled}
 use Rattle.crash_simulation.proofs.Boundaries.{IsAddress, stands_in, store_is, store_ahead, BoundaryIsRecoverable, boundaries_begin}
 use Rattle.crash_simulation.proofs.PendingFlushes.{Passage, stored_same, still_reached, reaches_same}
 use Rattle.log_states.proofs.Public.{ends as log_ends}
@@ -34,6 +34,7 @@ use Rattle.crash_simulation.proofs.ChosenNodes.{chosen_stores, plain_after_lock}
 use Rattle.crash_simulation.proofs.GraphAfterBegin.{matches_now}
 use Rattle.crash_simulation.proofs.OwnHartSteps.{view, log_begins, step_to}
 use Rattle.crash_simulation.proofs.ThreadViews.{begins_with, describes_over, none_clean, records_begin}
+use Rattle.crash_simulation.proofs.ReadBytes.{none_bound, reads_same}
 use Rattle.crash_simulation.proofs.RecordsAfterCrash.{caught_is_over}
 
 -- ---- Lists
@@ -128,6 +129,7 @@ module _ {y : System} {s : IsSystem y} {w : World} {h : ℕ} (site : Site y s w 
       let o : IsAt (Asks (lock_number seen.locals lock) next) some.steps = record {
         environment = bare_here;
         answers = bare_answers y s w h site.below (now b.config);
+        just_read = bare_just_read y s w h site.below b c;
         side = core.side;
         at_side = core.at_side;
         fragment = subst (FragmentWith bare_here core.side some.steps (Asks (lock_number seen.locals lock) next)) (sym none) some.on;
@@ -264,6 +266,7 @@ module _ {y : System} {s : IsSystem y} {w : World} {h : ℕ} (site : Site y s w 
     keeps_now = record {
       environment = bare_here;
       answers = bare_answers y s w h site.below (now b.config);
+      just_read = bare_just_read y s w h site.below b ghost;
       side = side_after boundary side;
       at_side = side_follows boundary side resume registers begins.recoverable;
       fragment = keeps.on;
@@ -287,6 +290,11 @@ module _ {y : System} {s : IsSystem y} {w : World} {h : ℕ} (site : Site y s w 
     abbrev passage : Passage y code
     passage = step_to site w b.config.uncommitted b.config.memory b.config.attempts (b.execution, b.respects) ghost log.hart
 
+    -- the boundary has its stores ahead: no steps are bound to it
+    unbound : is_bound ghost ≡ is_bound c
+    unbound = ap (λ (some : Bool). not some) (boundary_stores boundary side resume registers)
+        ∙ sym (ap (λ (done : Bool). not done && not (list_any is_store c.rest)) no_boundary)
+
     abbrev thread : ThreadInv y w b code ghost
     thread = record {
       log = log;
@@ -302,19 +310,22 @@ module _ {y : System} {s : IsSystem y} {w : World} {h : ℕ} (site : Site y s w 
           (λ word position among low.
           let settled = recorded_settled w.log n c.new w.words (log_ends w.log n c.old c.new (config_of w t.log.hart c.rest) t.log.log no_rest) word among in
           durable_there (omega (arith, low, settled))) t.stored;
+      has_read = reads_same passage (λ byte. refl) (none_bound c no_boundary) (unbound ∙ none_bound c no_boundary) refl t.has_read;
     }
 
     caught : HasCommittedLog y w b code ghost thread
     caught = ap (λ (l : Log). is_committed l n (record { words = w.words; queue = log.hart.queue; rest = ghost.rest })) (sym logs)
         ∙ begins_uncommitted boundary side resume registers w.words log.hart.queue
 
-    -- the boundary has its stores ahead: no steps are bound to it
-    unbound : is_bound ghost ≡ is_bound c
-    unbound = ap (λ (some : Bool). not some) (boundary_stores boundary side resume registers)
-        ∙ sym (ap (λ (done : Bool). not done && not (list_any is_store c.rest)) no_boundary)
-
     says : SaysSame ghost c
-    says = record { bound = unbound; leaving = none_leaving ghost refl ∙ sym (none_leaving c no_giving); giving = sym no_giving; ahead = refl; last = refl }
+    says = record {
+      bound = unbound;
+      leaving = none_leaving ghost refl ∙ sym (none_leaving c no_giving);
+      giving = sym no_giving;
+      ahead = refl;
+      last = refl;
+      accesses = refl;
+    }
 
     -- ---- The machine, where that is the thread's ghost state
 
@@ -381,7 +392,7 @@ module _ {y : System} {s : IsSystem y} {w : World} {h : ℕ} (site : Site y s w 
     site = site;
     similar = record {
       abstract = refl;
-      same = λ n. record { bound = refl; leaving = refl; giving = refl; ahead = refl; last = refl };
+      same = λ n. record { bound = refl; leaving = refl; giving = refl; ahead = refl; last = refl; accesses = refl };
       fences = λ n. same_fences (boundary_fences y.plan.log) false false (site.stands.ghosts n).rest refl refl;
     };
     ready = ready;
@@ -418,6 +429,7 @@ module _ {y : System} {s : IsSystem y} {w : World} {h : ℕ} (site : Site y s w 
       arrives some.steps (record {
         environment = bare_here site;
         answers = bare_answers y s w h site.below (now b.config);
+        just_read = bare_just_read y s w h site.below b c;
         side = a.side;
         at_side = a.at_side;
         fragment = subst (FragmentWith site (bare_here site) a.side some.steps Arrives) (sym none) some.on;

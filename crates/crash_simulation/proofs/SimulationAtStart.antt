@@ -22,6 +22,8 @@ use Rattle.flow_graph.specs.IdempotentCuts as cutting
 use Rattle.region_attempts.specs.AttemptsInRegion as attempts
 use Rattle.crash_simulation.proofs.StatesMatchSource.{orderly, begins_orderly}
 use Rattle.crash_simulation.proofs.RecordsAfterCrash.{over_is_caught, left, log_of, left_describes}
+use Rattle.crash_simulation.specs.Accesses.{load}
+use Rattle.crash_simulation.proofs.ReadBytes.{none_read}
 use Rattle.crash_simulation.proofs.ThreadViews.{none_clean, none_stored, records_over}
 use Rattle.crash_simulation.proofs.ThreadsOfMachines.{machine_stays}
 use Rattle.crash_simulation.proofs.LastReleases.{holds_some}
@@ -48,6 +50,7 @@ resting_ghost y r n = record {
   giving = None;
   before_mark = most_ahead y n;
   last_stores = λ word. None;
+  first_accesses = λ byte. None;
 }
 
 pub resting_thread : (y : System) (v : World) (b : AbstractRun y) (code : Code y.plan) (r : Record) (n : ℕ) (graph_thread : GraphThread)
@@ -62,6 +65,7 @@ resting_thread y v b code r n graph_thread log describes none walks phase = reco
   walks = walks;
   phase = phase;
   stored = none_stored y v b code (resting_ghost y r n) log.hart none none_clean (λ word position is. absurd (none-some position is));
+  has_read = none_read y b code.thread.number (resting_ghost y r n) none (λ byte is. none-some load is);
 }
 
 module _ (y : System) (s : IsSystem y) (v : World) (abstract : AbstractRun y) (records : ℕ → Record) (again : BeginsAgain y s v abstract records) where

@@ -19,7 +19,7 @@ use Rattle.crash_simulation.proofs.KeptThreads.{phase_moves, others_stand}
 use Rattle.crash_simulation.proofs.ThreadViews.{IsQuiet, describes_over, moves_alone}
 use Rattle.crash_simulation.proofs.ThreadsOfMachines.{machine_stays, phase_of}
 use Rattle.crash_simulation.proofs.CommitSimulation.{commit_stutters}
-use Rattle.crash_simulation.proofs.LoadFreeEnvironment.{bare, bare_agrees, bare_meets, bare_answers, placed}
+use Rattle.crash_simulation.proofs.LoadFreeEnvironment.{bare, bare_agrees, bare_meets, bare_answers, bare_just_read, placed}
 use Rattle.crash_simulation.proofs.ChosenNodes.{plain_after_lock, plain_after_unlock}
 use Rattle.crash_simulation.proofs.GraphAfterBegin.{alone}
 use Rattle.crash_simulation.proofs.OwnHartSteps.{view, same_number}
@@ -289,6 +289,7 @@ module _ (y : System) (s : IsSystem y) (w : World) (h : ℕ) (stands : Simulates
         on_fragment Arrives fragment.steps (record {
           environment = environment;
           answers = bare_answers y s resumed h below (now b.config);
+          just_read = bare_just_read y s resumed h below b ghost;
           side = side;
           at_side = λ some. refl;
           fragment = subst (IsOnFragment y.plan code.thread places (on_machine y.runs.program resumed n environment) _ fragment.steps) (sym none)

@@ -12,16 +12,20 @@ use Rattle.crash_simulation.proofs.Common.{places_of, ThreadGhost, is_ahead, IsF
 use Rattle.crash_simulation.proofs.Common.{is_fence, ◌+◌, ◌≤◌, ◌==◌, eqb-true, eq-eqb, cond-true, length-append, has_moved, last_position, word_at, Step}
 use Rattle.crash_simulation.proofs.Common.{History, positions_meet, IsOnItsWay, durable_there, comes_with, recorded_in}
 use Rattle.machine_model.specs.Schedule.{completes}
+use Rattle.crash_simulation.specs.Accesses.{is_among, stores_to}
 use Rattle.crash_simulation.specs.StorePositions.{stores_into}
+use Rattle.crash_simulation.specs.ThreadGhosts.{IsElementAt}
+use Rattle.crash_simulation.proofs.Common.{◌⊎◌, IsReadAt, is_bound, stored_before_read}
+use Rattle.flow_graph.specs.Paths.{element as named}
 use Rattle.region_attempts.specs.PendingCleans.{Cleans}
 use Rattle.ido_base.specs.Words as words
 use Rattle.rv64_isa.specs.Rows as r
 use Rattle.flow_graph.specs.Actions as a
-use Rattle.crash_simulation.proofs.ConfigAfterBegin.{one_longer, attempted, done_longer, alone_ahead}
+use Rattle.crash_simulation.proofs.ConfigAfterBegin.{one_longer, attempted, done_longer, alone_ahead, wrote}
 use Rattle.crash_simulation.proofs.GraphAfterBegin.{matches_now, follows_on, not_come, boundary_after_is}
 use Rattle.crash_simulation.proofs.MarksAtNodes.{Doing, MarkIn, AtMark, Passes, environment, in_graph, at_some_mark}
-use Rattle.crash_simulation.proofs.LoadFreeEnvironment.{bare_answers, bare_reads}
-use Rattle.crash_simulation.proofs.StatesMatchSource.{resumed, now_orderly, now_good}
+use Rattle.crash_simulation.proofs.LoadFreeEnvironment.{bare_answers, bare_just_read, bare_reads}
+use Rattle.crash_simulation.proofs.StatesMatchSource.{cuts, resumed, now_orderly, now_good}
 use Rattle.crash_simulation.proofs.Boundaries.{store_is}
 use Rattle.crash_simulation.proofs.Elements.{room, there_or_none, variables_end, element_below, word_of_element}
 use Rattle.crash_simulation.proofs.NodeEffects.{ahead_is}
@@ -29,7 +33,7 @@ use Rattle.crash_simulation.proofs.NodeEnvironments.{element_access}
 use Rattle.crash_simulation.proofs.OwnHartSteps.{view, StepOf, AtNode}
 use Rattle.crash_simulation.proofs.PendingFlushes.{as_before}
 use Rattle.crash_simulation.proofs.WriteBackSteps.{mark_step}
-use Rattle.crash_simulation.proofs.CompletedEffects.{last_unless, next_completed, step_durable}
+use Rattle.crash_simulation.proofs.CompletedEffects.{is_among_by, last_unless, next_completed, step_durable}
 use Rattle.crash_simulation.proofs.MarkSteps.{flushed_on, flushed_passed, passed_record, passed_step, is_next}
 use Rattle.crash_simulation.proofs.MarkSteps as passing
 
@@ -315,6 +319,48 @@ module _ {y : System} {s : IsSystem y} {w : World} {h : ℕ} (site : AtNode y s 
               | recorded_in among low ↦ passed_record site passed word position among low
             ]
 
+    -- ---- What it has read
+
+    -- the element that is stored to
+    pub stored_element : IsElementAt y store.variable store.element address (bytes_of k)
+    stored_element = record { is = formed.it; there = formed.found; within = formed.element; address_is = refl; bytes_are = refl }
+
+    completes_to : (byte : ℕ) → completes (stores_to byte) y.runs.program w (Step n) n ≡ is_among address (bytes_of k) byte
+    completes_to byte =
+        next_completed (stores_to byte) y.runs.program w n mark.at.on.hart p.forward.effect (is_next site at_mark p) (ap has_moved p.forward.reply)
+        ∙ ap (stores_to byte) effect_is
+
+    -- what it stores now it accesses
+    accessed : (variable number place width byte : ℕ) → IsElementAt y variable number place width → place ≤ byte → byte < place + width →
+        variable ≡ store.variable → number ≡ store.element → completes (stores_to byte) y.runs.program w (Step n) n ≡ true
+    accessed variable number place width byte at from to same equal =
+        let its : at.is ≡ formed.it = same_Some _ _ (sym at.there ∙ (ap (slice_get (flat_of y).variables) same ∙ formed.found)) in
+        let there : place ≡ address = at.address_is ∙ (λ i. variable_at (shapes_of y) (same i) (equal i)) in
+        let wide : width ≡ bytes_of k = at.bytes_are ∙ ap (λ (z : Variable). bytes_of z.kind) its in
+        completes_to byte ∙ is_among_by address (bytes_of k) byte (omega (arith, from, there)) (omega (arith, to, there, wide))
+
+    stored_then : (variable number place width byte : ℕ) → is_bound new ≡ false → Writes b.config.kept n (attempt_of next.config n).done variable number →
+        IsElementAt y variable number place width → place ≤ byte → byte < place + width →
+        Writes b.config.kept n (attempt_of b.config n).done variable number ⊎ (completes (stores_to byte) y.runs.program w (Step n) n ≡ true)
+    stored_then variable number place width byte unbound writes at from to =
+        elim (wrote b.config.kept n (attempt_of b.config n).done variable number
+        (subst (λ (j : ℕ). Writes b.config.kept n j variable number) (done_longer b.config n) writes)) [
+          | inl old ↦ inl old
+          | inr at_once ↦ let same = written variable number at_once in inr (accessed variable number place width byte at from to same.0 same.1)
+        ]
+
+    -- what its attempt has read of that it had stored before
+    pub follows : (step : ℕ) → step ≤ (attempt_of b.config n).done →
+        IsReadAt (flat_of y) (kept_of y b) b.config.kept n step (named store.variable store.element) →
+        Writes b.config.kept n step store.variable store.element
+    follows step low read =
+        let r = resumed y s next in
+        let within = (r.resumed.invariant.tried n).within in
+        stored_before_read (flat_of y) y.plan.boundaries b.origin next.config b.schedule n step (attempt_of b.config n).done
+        (named store.variable store.element) s.plan.formed (cuts y s b) r.resumed.invariant r.resumed.kept (r.inside n) read low
+        (omega (arith, within, done_longer b.config n)) newest.writes
+
   pub store_step : MarksPass → StepOf site.hart n
   store_step marks = mark_step site at_mark marks
-      (λ p. passed_step site (passed p) (bare_answers y s w h site.hart.below (now (next p).config)) (flushed p) (last p))
+      (λ p. passed_step site (passed p) (bare_answers y s w h site.hart.below (now (next p).config)) (flushed p) (last p)
+      (bare_just_read y s w h site.hart.below (next p) (new p)) (stored_then p))

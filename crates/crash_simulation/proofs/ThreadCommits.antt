@@ -16,6 +16,10 @@ use Rattle.crash_simulation.proofs.Elements.{word_durable}
 use Rattle.crash_simulation.proofs.StatesMatchSource.{resumed, kept_matches, as_source}
 use Rattle.crash_simulation.proofs.PendingReleases.{IsAtBoundary, at_keeps, at_took, at_gives, under_way, bounded_of}
 use Rattle.crash_simulation.proofs.KeptThreads.{moves_nowhere, IsKept, IsLeftAlone, stands_kept}
+use Rattle.crash_simulation.proofs.Common.{AnswersJustRead, Element, HasRead, IsReadAt, MarkedEnvironment, and_parts, element_lock, held_same, is_bound}
+use Rattle.crash_simulation.proofs.Common.{is_store, list_any, not, ◌&&◌}
+use Rattle.crash_simulation.specs.Accesses.{load}
+use Rattle.crash_simulation.proofs.ReadBytes.{none_read}
 use Rattle.crash_simulation.proofs.ThreadViews.{none_stored}
 
 -- ---- Attempts
@@ -183,6 +187,20 @@ module _ (y : System) (s : IsSystem y) (b : AbstractRun y) where
       pub node_same : (k : ℕ) → k ≤ longest → node_after x (kept_of y committed_run) u k ≡ node_after x (kept_of y b) u k
       node_same k l = ap (option_map (λ (z : GraphThread). z.at)) (graph_threads_along k l)
 
+      -- another thread reads the same along its attempts
+      pub reads_on : (k : ℕ) (one : Element) → k ≤ longest → IsReadAt x (kept_of y b) old.kept u k one → IsReadAt x (kept_of y committed_run) K' u k one
+      reads_on k one l r = record {
+        graph_thread = r.graph_thread;
+        found = graph_threads_along k l ∙ r.found;
+        node = r.node;
+        at = r.at;
+        seen = r.seen;
+        reads = r.reads;
+        lies = r.lies;
+        kept_guards = held_same u old.kept.holders K'.holders (element_lock x.variables one.variable one.element)
+            (sym (same_other x old t invariant u apart).held) r.kept_guards;
+      }
+
       -- another thread's record goes on to describe the kept state
       pub describes_on : (code : Code y.plan) (r : Record) → code.thread.number ≡ u → Describes y.plan code (kept_of y b) r →
           Describes y.plan code (kept_of y committed_run) r
@@ -215,8 +233,13 @@ module _ (y : System) (w : World) (b next : AbstractRun y) (code : Code y.plan) 
   open code.thread use {number as n}
 
   fragment_stays : (hart : Hart) (graph_thread : GraphThread) (exit : ExitPoint) (steps : ℕ) (o : InFragment y w b code c hart graph_thread exit steps) →
-      ExitInv y next.config n (taken c) graph_thread exit → InFragment y w next code (taken c) hart graph_thread exit steps
-  fragment_stays hart graph_thread exit steps o h5 = grind arith
+      AnswersJustRead y next n (taken c) o.environment → ExitInv y next.config n (taken c) graph_thread exit →
+      InFragment y w next code (taken c) hart graph_thread exit steps
+  fragment_stays hart graph_thread exit steps o just h5 = grind arith
+
+  -- while a boundary is under way nothing has just been read
+  none_just_read : (z : MarkedEnvironment) → c.committed ≡ false → AnswersJustRead y b n c z → AnswersJustRead y next n (taken c) z
+  none_just_read z not_yet just address bytes value e = absurd (true≢false (sym (just address bytes value e).goes.committed ∙ not_yet))
 
   bounded : {Before After : Type 0} (graph_thread : GraphThread) (giving : Option ℕ) → IsBounded y b.config n c graph_thread giving Before →
       IsBounded y next.config n (taken c) graph_thread giving After
@@ -241,6 +264,15 @@ module _ (y : System) (w : World) (b next : AbstractRun y) (code : Code y.plan) 
         omega (arith, low, settled)
   ]
 
+  -- its steps are bound
+  bound : (hart : Hart) → c.committed ≡ false → committed w n c hart ≡ true → is_bound c ≡ true
+  bound hart not_yet sooner =
+      let stored = (and_parts (not (list_any is_store c.rest)) _ sooner).0 in
+      λ i. not (not_yet i) && stored i
+
+  none_first : (hart : Hart) → c.committed ≡ false → committed w n c hart ≡ true → HasRead y b n c → (byte : ℕ) → c.first_accesses byte ≢ Some load
+  none_first hart not_yet sooner reads byte is = true≢false (sym (bound hart not_yet sooner) ∙ (reads.read byte is).unbound)
+
   pub own_stands : IsSystem y → memory_in (places_of y) w.words ≡ b.config.memory → (t : ThreadInv y w b code c) → c.committed ≡ false →
       committed w n c t.log.hart ≡ true → ThreadInv y w next code (taken c)
   own_stands s memory t not_yet sooner =
@@ -256,8 +288,10 @@ module _ (y : System) (w : World) (b next : AbstractRun y) (code : Code y.plan) 
         graph_thread = t.graph_thread;
         walks = ap (λ (z : FlowState). slice_get z.graph_threads n) up.states ∙ t.walks;
         phase = subst (λ (p : Phase). InPhase y w next code (taken c) t.log.hart t.graph_thread p) (sym u.runs)
-            (on_fragment u.to u.steps (fragment_stays t.log.hart t.graph_thread u.to u.steps u.on (own_fits t.graph_thread u.to u.exit u.on.fits)));
+            (on_fragment u.to u.steps (fragment_stays t.log.hart t.graph_thread u.to u.steps u.on
+            (none_just_read u.on.environment not_yet u.on.just_read) (own_fits t.graph_thread u.to u.exit u.on.fits)));
         stored = none_stored y w next code (taken c) t.log.hart up.done t.stored.cleans (last_durable s memory t not_yet sooner);
+        has_read = none_read y next n (taken c) up.done (none_first t.log.hart not_yet sooner t.has_read);
       }
 
 -- ---- Another thread
@@ -306,6 +340,7 @@ module _ (y : System) (s : IsSystem y) (b : AbstractRun y) (k : ℕ) (may : MayS
     writes_on = λ j v e within written. writes_on y s b k may u apart j v e (longest_within j within) written;
     since = λ v e position written i. i;
     durable = λ v e. omega arith;
+    reads = λ j one within r. reads_on y s b k may u apart j one (longest_within j within) r;
   }
 
   pub other_stands : (w : World) → ThreadInv y w b code c → ThreadInv y w kept_then code c

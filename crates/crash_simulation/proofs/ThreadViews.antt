@@ -68,7 +68,17 @@ moves_alone program w u h old new sound here does words harts queue = record {
 -- its ghost state, where a boundary begins that leads to the record
 abbrev pub begins_with : ThreadGhost → Record → (rest : List Effect) → (giving : Option ℕ) → (before_mark : ℕ) → ThreadGhost
 begins_with c r rest giving before_mark =
-    record { old = c.new; new = r; rest = rest; committed = false; cleans = []; giving = giving; before_mark = before_mark; last_stores = c.last_stores }
+    record {
+      old = c.new;
+      new = r;
+      rest = rest;
+      committed = false;
+      cleans = [];
+      giving = giving;
+      before_mark = before_mark;
+      last_stores = c.last_stores;
+      first_accesses = c.first_accesses;
+    }
 
 module _ (y : System) (b : AbstractRun y) (code : Code y.plan) (c : ThreadGhost) {sooner : Bool} where
   -- where no boundary is under way, and nothing is to be given back

@@ -13,7 +13,8 @@ use Rattle.crash_simulation.proofs.Common.{goes, abstract_next, begins_step, beg
 use Rattle.crash_simulation.proofs.Common.{on_fragment, InPhase, ThreadInv, IsFlushed}
 use Rattle.crash_simulation.proofs.Common.{is_fence, boundary_fences, AreFencesCounted, boundary_stores}
 use Rattle.crash_simulation.proofs.Common.{◌⊎◌, inl, ⊎_elim, last_position, word_at, Log, log_stays, Step}
-use Rattle.crash_simulation.proofs.Common.{last_store_after, IsWordOf, durable_there}
+use Rattle.crash_simulation.proofs.Common.{first_access_after, last_store_after, stores_point, IsWordOf, durable_there}
+use Rattle.crash_simulation.proofs.ReadBytes.{passed_answers, reads_after}
 use Rattle.log_states.proofs.Public.{ends}
 use Rattle.flow_graph.proofs.Public.{moved}
 use Rattle.flow_graph.specs.Actions as a
@@ -24,7 +25,7 @@ use Rattle.crash_simulation.proofs.ThreadViews.{begins_with, describes_over, log
 use Rattle.crash_simulation.proofs.MarksAtNodes.{Doing, MarkIn, AtMark, Passes, environment, stage_then, in_graph, at_plan, graph_step_is, at_some_mark}
 use Rattle.crash_simulation.proofs.MarksAtNodes.{old_hart, passed_soon}
 use Rattle.crash_simulation.proofs.MarkSteps.{is_next, may_each, holders_stay, reaches_on}
-use Rattle.crash_simulation.proofs.LoadFreeEnvironment.{bare_answers, bare_reads}
+use Rattle.crash_simulation.proofs.LoadFreeEnvironment.{bare_answers, bare_just_read, bare_reads}
 use Rattle.crash_simulation.proofs.LastReleases.{holders_stay_none, none_leaving}
 use Rattle.crash_simulation.proofs.Boundaries.{after_unlock_in, BoundaryIsRecoverable, boundaries_begin}
 use Rattle.crash_simulation.proofs.LocksAfterStep.{GoneOn, held_unlocked}
@@ -292,6 +293,7 @@ module _ {y : System} {s : IsSystem y} {w : World} {h : ℕ} (site : AtNode y s 
     abbrev new : ThreadGhost
     new = record (begins_with c new_record p.later (Some mutex) (most_ahead y n)) {
       last_stores = λ word. last_store_after y.runs.program w (Step n) n word (c.last_stores word);
+      first_accesses = λ byte. first_access_after y.runs.program w (Step n) n byte (c.first_accesses byte);
     }
 
     abbrev side_next : ℕ
@@ -303,6 +305,7 @@ module _ {y : System} {s : IsSystem y} {w : World} {h : ℕ} (site : AtNode y s 
         (on_fragment (Gives graph_thread.at mutex) mark.steps (record {
           environment = here;
           answers = bare_answers y s w h site.hart.below (now next.config);
+          just_read = bare_just_read y s w h site.hart.below next new;
           side = side_next;
           at_side = side_follows boundary site.core.side resume site.core.registers begins.recoverable;
           fragment =
@@ -337,6 +340,13 @@ module _ {y : System} {s : IsSystem y} {w : World} {h : ℕ} (site : AtNode y s 
         (λ own. inr (subst (λ (l : Log). IsWordOf l n new_record word) (sym (log_stays y.runs.program w (Step n) site.hart.stands.machine.sound)) own.0, own.1))
         (first.lasts word position is)
 
+    points : stores_point y.runs.program w (Step n) n ≡ (not (is_bound c) && is_bound new)
+    points = p.point ∙ first.point ∙ ap (λ (q : Bool). not q && is_bound new)
+        (sym (ap (λ (q : Bool). is_bound (record c { committed = q })) site.core.goes.goes.committed))
+
+    bound : is_bound c ≡ true → is_bound new ≡ true
+    bound is = absurd (not_bound c site.core.goes.goes.committed is)
+
     abbrev own : ThreadInv y v next code new
     own = record {
       log = log_at first.log p.on.on.hart p.on.on.here;
@@ -351,6 +361,14 @@ module _ {y : System} {s : IsSystem y} {w : World} {h : ℕ} (site : AtNode y s 
           let settled =
           recorded_settled w.log n c.new w.words (ends w.log n c.old c.new (config_of w t.log.hart c.rest) t.log.log site.core.goes.goes.rest) word among in
           durable_there (step_durable y.runs.program w n site.hart.stands.machine.sound word position (omega (arith, low, settled)))) t.stored;
+      has_read = reads_after step (record {
+        hart = hart;
+        effect = p.forward.effect;
+        is_next = next_is;
+        environment = here;
+        answered = passed_answers here _ p.forward.by p.forward.effect p.forward.leads;
+        just = bare_just_read y s w h site.hart.below next new;
+      }) t.has_read bound (omega arith) (omega arith) (λ byte. refl) points (λ variable number place width byte unbound writes is from to. inl writes);
     }
 
     -- ---- Locks
@@ -375,15 +393,14 @@ module _ {y : System} {s : IsSystem y} {w : World} {h : ℕ} (site : AtNode y s 
       counted = record {
         marks = p.mark y.runs.marks refl;
         unlocked = λ lock gives. begins_unlock refl (unlocks_now ∙ gives);
-        points =
-            p.point ∙ first.point ∙ ap (λ (q : Bool). not q && is_bound new)
-            (sym (ap (λ (q : Bool). is_bound (record c { committed = q })) site.core.goes.goes.committed));
-        bound = λ bound. absurd (not_bound c site.core.goes.goes.committed bound);
+        points = points;
+        bound = bound;
         fences =
             coe 0 1 (i. AreFencesCounted (boundary_fences y.plan.log) ((sym p.fence) i) ((sym p.point) i) ((sym site.core.goes.goes.rest) i) p.later)
             first.fences;
         nears = begins_step refl;
         last = λ word. refl;
+        accesses = λ byte. refl;
       };
       released = nothing_released (holders_stay_none y.runs.program w n still_held) (sym (none_leaving c site.core.goes.goes.giving));
     }

@@ -8,7 +8,7 @@ use Rattle.crash_simulation.proofs.Common.{Effect, finishes_fence, stores_point,
 use Rattle.ido_base.specs.Growth.{ArePersisted}
 use Rattle.recovery_semantics.specs.ElementHistories as histories
 use Rattle.crash_simulation.proofs.BoundaryFences.{same_fences}
-use Rattle.crash_simulation.proofs.CompletedEffects.{last_by, step_durable, step_last, stores_none}
+use Rattle.crash_simulation.proofs.CompletedEffects.{accessed_by, last_by, step_durable, step_last, stores_none}
 use Rattle.crash_simulation.proofs.Common.{inl, log_stays, Log, IsWordOf, recorded_in}
 use Rattle.crash_simulation.proofs.LastReleases.{holders_stay_none, none_leaving, and_none}
 use Rattle.crash_simulation.proofs.PendingFlushes.{Passage, run_after, still_reached, stored_same}
@@ -17,7 +17,8 @@ use Rattle.crash_simulation.proofs.OwnHartSteps.{step_to, going, view, StepOf, h
 use Rattle.crash_simulation.proofs.MarksAtNodes.{AtMark, environment, stage_then, Passes, WritesBack, old_hart}
 use Rattle.crash_simulation.proofs.LocksAfterStep.{GoneOn}
 use Rattle.crash_simulation.proofs.UncommittedSteps.{leads_on}
-use Rattle.crash_simulation.proofs.FragmentSteps.{held_up_stores_none}
+use Rattle.crash_simulation.proofs.FragmentSteps.{held_up_accesses_none, held_up_stores_none}
+use Rattle.crash_simulation.proofs.ReadBytes.{none_bound, reads_same}
 
 -- a committed boundary binds nothing
 pub not_bound : (c : ThreadGhost) → c.committed ≡ true → is_bound c ≡ true → ⊥
@@ -49,7 +50,7 @@ module _ {y : System} {s : IsSystem y} {w : World} {h : ℕ} (site : AtNode y s 
       subst (λ (m : Memory). histories.ArePersisted m memory) memory_is (memory_persisted (places_of y) w.words v.words persisted)
 
   abbrev new : ThreadGhost
-  new = going c [] (c.before_mark - 1) c.last_stores
+  new = going c [] (c.before_mark - 1) c.last_stores c.first_accesses
 
   abbrev passage : Passage y code
   passage = step_to site.hart v b.config.uncommitted memory b.config.attempts (leads_on y b _ (persists memory memory_persists) refl tt) new later_hart
@@ -78,7 +79,7 @@ module _ {y : System} {s : IsSystem y} {w : World} {h : ℕ} (site : AtNode y s 
       let log = log_going site (stores_nothing y.runs.program w n n hart d.effect is_next no_store) later_hart stays.still.on.here in
       record {
         log = log;
-        records = records_going site next refl [] (c.before_mark - 1) c.last_stores log;
+        records = records_going site next refl [] (c.before_mark - 1) c.last_stores c.first_accesses log;
         graph_thread = graph_thread;
         walks = t.walks;
         phase = phase;
@@ -87,6 +88,7 @@ module _ {y : System} {s : IsSystem y} {w : World} {h : ℕ} (site : AtNode y s 
             (step_durable y.runs.program w n sound) (λ word position is. inl is)
             (λ word position among low. recorded_in (subst (λ (l : Log). IsWordOf l n c.new word) (sym (log_stays y.runs.program w (Step n) sound)) among)
             (step_last y.runs.program w n sound word position low)) t.stored;
+        has_read = reads_same passage (λ byte. refl) (none_bound c goes_here.committed) refl refl t.has_read;
       }
 
   stays_step : StepOf site.hart n
@@ -110,6 +112,8 @@ module _ {y : System} {s : IsSystem y} {w : World} {h : ℕ} (site : AtNode y s 
           (same_fences (boundary_fences y.plan.log) _ _ [] stays.counts.1 stays.counts.0);
       nears = is_nearer nearer.0;
       last = λ word. last_by y.runs.program w n word (c.last_stores word) hart d.effect is_next (stores_none word d.effect no_store);
+      accesses =
+          λ byte. accessed_by y.runs.program w n byte (c.first_accesses byte) hart d.effect is_next (held_up_accesses_none d.effect hart.queue d.held_up);
     };
     released = nothing_released (holders_stay_none y.runs.program w n holders_stay) (sym (none_leaving c goes_here.giving));
   }

@@ -10,9 +10,8 @@ use Rattle.machine_model.specs.Schedule.{PendingStep, Steps, harts_of, only_life
 use Rattle.log_states.specs.Logs.{point_in}
 use Rattle.crash_simulation.specs.Systems.{System, IsSystem, flat_of, thread_count}
 use Rattle.crash_simulation.specs.AbstractRuns.{AbstractRun}
-use Rattle.crash_simulation.specs.ThreadGhosts.{ThreadGhost}
+use Rattle.crash_simulation.specs.ThreadGhosts.{ThreadGhost, is_bound}
 use Rattle.crash_simulation.specs.SimulationRelation.{Simulates}
-use Rattle.crash_simulation.specs.InstructionSteps.{is_bound}
 use Rattle.crash_simulation.specs.ReleasedSections.{sections_kept, IsReleasedOf}
 
 -- the position of the last store of a thread's point

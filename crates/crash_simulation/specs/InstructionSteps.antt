@@ -1,7 +1,6 @@
 -- A step of a hart that executes instructions: what it is to its own thread, and all that the others need to know of it.
 use Rattle.std.specs.Prelude.{◌≡◌, ◌≢◌, ◌⊎◌, ℕ, suc, ◌/◌, ◌<◌, slice_get, Option, Some, is_some, Bool, true, false, not, ◌&&◌, ◌==◌, if◌then◌else◌}
 use Rattle.c_tree.specs.Exprs.{LockName}
-use Rattle.std.specs.List.{list_any}
 use Rattle.machine_events.specs.declared.event.Event.TheVariants.{Step}
 use Rattle.machine_events.specs.declared.event.Reply.TheVariants.{Waits}
 use Rattle.ido_base.specs.Layout.{variable_at, byte_number}
@@ -16,6 +15,7 @@ use Rattle.machine_model.specs.declared.phase.Phase.TheVariants.{Run, Done, Ende
 use Rattle.rv64_isa.specs.Rows.{Effect, Stores}
 use Rattle.machine_model.specs.Machine.{Hart, World, after_event, happens}
 use Rattle.machine_model.specs.Schedule.{passes_mark, stores_point, finishes_fence, releases_last}
+use Rattle.crash_simulation.specs.Accesses.{first_access_after}
 use Rattle.crash_simulation.specs.StorePositions.{last_store_after}
 use Rattle.flow_graph.specs.Nodes.{Lock, Node}
 use Rattle.flow_graph.specs.Liveness.{NodeAt}
@@ -33,6 +33,7 @@ use Rattle.crash_simulation.specs.Systems.{System, IsSystem, flat_of, shapes_of,
 use Rattle.crash_simulation.specs.AbstractRuns.{AbstractRun}
 use Rattle.crash_simulation.specs.BoundaryFences.{boundary_fences, AreFencesCounted}
 use Rattle.crash_simulation.specs.ThreadGhosts.{ThreadGhost, InFragment, AtCore, ThreadInv}
+pub use Rattle.crash_simulation.specs.ThreadGhosts.{is_bound}
 use Rattle.crash_simulation.specs.SimulationRelation.{AreLocked, SimulatesBut, Simulates, anybody}
 
 -- what happens is a step of the thread, or more is durable
@@ -83,10 +84,6 @@ abbrev pub begins : {y : System} {b : AbstractRun y} {thread : ℕ} {next : Abst
 begins stays = false
 begins (goes next h by execution respects) = is_begun h
 
--- the boundary under way has stored its point and isn't taken as committed: the steps before it are bound to that store
-abbrev pub is_bound : ThreadGhost → Bool
-is_bound c = not c.committed && not (list_any is_store c.rest)
-
 -- the thread has a mutex still to give back: it had before, and begins no step; or the step that it begins unlocks the mutex
 pub data IsUnlocked (s : State) (thread : ℕ) (begun : Bool) (giving : Option ℕ) (mutex : ℕ) : Type 0 where
   was_unlocked : begun ≡ false → giving ≡ Some mutex → IsUnlocked s thread begun giving mutex
@@ -112,6 +109,8 @@ pub record IsCounted (y : System) (w : World) (b : AbstractRun y) (h : ℕ) (beg
   pub nears : Nears y w h begun old.before_mark new.before_mark
   -- a store is the last one then
   pub last : (word : ℕ) → new.last_stores word ≡ last_store_after y.runs.program w (Step h) h word (old.last_stores word)
+  -- and an access the first one, if there was none
+  pub accesses : (byte : ℕ) → new.first_accesses byte ≡ first_access_after y.runs.program w (Step h) h byte (old.first_accesses byte)
 
 -- ---- What it releases
 
@@ -167,14 +166,15 @@ module _ {y : System} {s : IsSystem y} {w : World} {h : ℕ} (site : Site y s w 
     at_core : AtCoreNow → ((is : Node) (lock : LockName) (next : ℕ) → NodeAt y.plan.graph thread_of.graph_thread.at is → is.action ≢ Lock lock next) →
         IsReadyToStep
 
--- whether the thread's steps are bound, whether it leaves a section, what it has to give back, how near its hart is to the next mark, and where that has
--- stored last, are the same
+-- whether the thread's steps are bound, whether it leaves a section, what it has to give back, how near its hart is to the next mark, where that has
+-- stored last, and what it has done to each byte first, are the same
 pub record SaysSame (new old : ThreadGhost) : Type 0 where
   pub bound : is_bound new ≡ is_bound old
   pub leaving : is_leaving new ≡ is_leaving old
   pub giving : new.giving ≡ old.giving
   pub ahead : new.before_mark ≡ old.before_mark
   pub last : new.last_stores ≡ old.last_stores
+  pub accesses : new.first_accesses ≡ old.first_accesses
 
 -- two machines simulate the same abstract run, and the same is said of each thread
 pub record AreSimilar (y : System) (s : IsSystem y) {w v : World} (old : Simulates y s w) (new : Simulates y s v) : Type 0 where

@@ -1,4 +1,5 @@
 pub mod StorePositions
+pub mod Accesses
 pub mod Systems
 pub mod AbstractRuns
 pub mod StepsToMark

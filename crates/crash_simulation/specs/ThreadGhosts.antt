@@ -1,5 +1,7 @@
 -- Where a thread of a compiled program is, by its graph thread and its ghost state.
-use Rattle.std.specs.Prelude.{◌≡◌, ℕ, ◌+◌, ◌/◌, ◌<◌, ◌≤◌, List, [], ◌++◌, length, slice_get, Contains, Option, Some, None, Bool, true, false, if◌then◌else◌}
+use Rattle.std.specs.Prelude.{◌≡◌, ◌≢◌, ℕ, suc, ◌+◌, ◌/◌, ◌<◌, ◌≤◌, List, [], ◌++◌, length, slice_get, Contains, Option, Some, None, Bool, true, false}
+use Rattle.std.specs.Prelude.{not, ◌&&◌, if◌then◌else◌}
+use Rattle.std.specs.List.{list_any}
 use Rattle.ido_base.specs.Layout.{variable_at, byte_number, word_number}
 use Rattle.ido_base.specs.Growth.{PersistsThrough}
 use Rattle.ido_base.specs.Words.{last_position, word_at}
@@ -17,14 +19,16 @@ use Rattle.machine_model.specs.Machine.{Hart, World, bank_of}
 use Rattle.code_runs.specs.CodeTraces.{MarkedEnvironment, seen_effects}
 use Rattle.flow_graph.specs.Actions.{GraphThread, seen_by}
 use Rattle.flow_graph.specs.IdempotentCuts.{IsChosen}
+use Rattle.flow_graph.specs.Paths.{element}
 use Rattle.recovery_semantics.specs.ElementHistories.{IsSince, history_at}
 use Rattle.recovery_semantics.specs.Attempts.{Writes, WritesAt}
 use Rattle.recovery_semantics.specs.Configs.{Config, now, attempt_of}
 use Rattle.recovery_semantics.specs.Events.{IsGoing, steps_begun}
 use Rattle.recovery_semantics.specs.Laws.{HasLocked, HasUnlocked, LastUnlocks}
+use Rattle.region_attempts.specs.Laws.{IsReadAt}
 use Rattle.region_attempts.specs.PendingCleans.{line_of, CleansSince}
 use Rattle.log_states.specs.Logs.{Record, IsSideOf, bank_word, slots_of}
-use Rattle.log_states.specs.Stages.{fences_ahead, is_committed}
+use Rattle.log_states.specs.Stages.{fences_ahead, is_committed, is_store}
 use Rattle.log_states.specs.Machines.{config_of}
 use Rattle.log_states.specs.LogInvariant.{LogInv}
 use Rattle.hart_runs.specs.RunSteps.{is_clean, steps_left}
@@ -32,6 +36,7 @@ use Rattle.thread_runs.specs.CodeFragments.{ExitPoint, Arrives, Keeps, Asks, Too
 use Rattle.recovered_threads.specs.RecordDescriptions.{Code, Describes}
 use Rattle.crash_simulation.specs.Systems.{System, flat_of, shapes_of}
 use Rattle.crash_simulation.specs.AbstractRuns.{AbstractRun, kept_of, now_of, attempts_of}
+use Rattle.crash_simulation.specs.Accesses.{Access, load}
 use Rattle.crash_simulation.specs.StepsToMark.{beyond, core_ahead, most_ahead, IsSoon}
 
 -- the ghost state of a thread: what is said of it besides its graph thread
@@ -50,10 +55,16 @@ pub record ThreadGhost : Type 0 where
   pub before_mark : ℕ
   -- of each word the position of the hart's last store into it since the last start or crash, if there was one
   pub last_stores : (word : ℕ) → Option ℕ
+  -- of each byte the hart's first access since its last store of its point, or since the last start or crash
+  pub first_accesses : (byte : ℕ) → Option Access
 
 -- what the kept state has of the thread's log
 abbrev pub record_kept : ThreadGhost → Record
 record_kept c = if c.committed then c.new else c.old
+
+-- the boundary under way has stored its point and isn't taken as committed: the steps before it are bound to that store
+abbrev pub is_bound : ThreadGhost → Bool
+is_bound c = not c.committed && not (list_any is_store c.rest)
 
 -- ---- What it reads
 
@@ -119,6 +130,57 @@ module _ (y : System) (m : Config) (thread : ℕ) (c : ThreadGhost) where
     pub committed : c.committed ≡ true
     pub whole : c.before_mark ≡ most_ahead y thread
 
+-- ---- What it has read
+
+-- an element of a variable, with its address
+pub record IsElementAt (y : System) (variable number address bytes : ℕ) : Type 0 where
+  pub is : Variable
+  pub there : slice_get (flat_of y).variables variable ≡ Some is
+  pub within : number < elements_in is.length
+  pub address_is : address ≡ variable_at (shapes_of y) variable number
+  pub bytes_are : bytes ≡ bytes_of is.kind
+
+-- the attempt's step after so many reads the element
+abbrev pub ReadsAt : (y : System) → AbstractRun y → (thread step variable number : ℕ) → Type 0
+ReadsAt y b thread step variable number = IsReadAt (flat_of y) (kept_of y b) b.config.kept thread step (element variable number)
+
+module _ (y : System) (b : AbstractRun y) (thread : ℕ) (c : ThreadGhost) where
+  -- the attempt's last step reads the element that is accessed so, and no boundary has begun since
+  pub record IsJustRead (address bytes : ℕ) : Type 0 where
+    pub variable : ℕ
+    pub number : ℕ
+    pub at : IsElementAt y variable number address bytes
+    pub goes : IsInAttempt y b.config thread c
+    pub step : ℕ
+    pub last : suc step ≡ (attempt_of b.config thread).done
+    pub read : ReadsAt y b thread step variable number
+
+  -- the environment answers no other loads
+  abbrev pub AnswersJustRead : MarkedEnvironment → Type 0
+  AnswersJustRead z = (address bytes value : ℕ) → z.around.loads address bytes ≡ Some value → IsJustRead address bytes
+
+  -- the byte is one of an element that a step of the attempt reads, and that no step before it has stored
+  pub record IsReadFirst (byte : ℕ) : Type 0 where
+    pub variable : ℕ
+    pub number : ℕ
+    pub address : ℕ
+    pub bytes : ℕ
+    pub at : IsElementAt y variable number address bytes
+    pub from : address ≤ byte
+    pub to : byte < address + bytes
+    pub step : ℕ
+    pub below : step < (attempt_of b.config thread).done
+    pub read : ReadsAt y b thread step variable number
+    pub unwritten : Writes b.config.kept thread step variable number → ⊥
+    pub unbound : is_bound c ≡ false
+
+  -- what its hart has loaded first its attempt has read first, and of what that has stored its hart has accessed each byte, until the point is stored
+  pub record HasRead : Type 0 where
+    pub read : (byte : ℕ) → c.first_accesses byte ≡ Some load → IsReadFirst byte
+    pub written : is_bound c ≡ false → (variable number address bytes byte : ℕ) →
+        Writes b.config.kept thread (attempt_of b.config thread).done variable number →
+        IsElementAt y variable number address bytes → address ≤ byte → byte < address + bytes → c.first_accesses byte ≢ None
+
 -- ---- What its log says
 
 -- of a boundary that the machine has committed, or hasn't
@@ -153,6 +215,7 @@ module _ (y : System) (w : World) (b : AbstractRun y) (code : Code y.plan) (c : 
   pub record InFragment (hart : Hart) (graph_thread : GraphThread) (exit : ExitPoint) (steps : ℕ) : Type 0 where
     pub environment : MarkedEnvironment
     pub answers : AnswersGuarded y (now b.config) code.thread.number environment
+    pub just_read : AnswersJustRead y b code.thread.number c environment
     pub side : ℕ
     pub at_side : IsSideOf c.new side
     pub fragment : IsOnFragment y.plan code.thread code.is.places (on_machine y.runs.program w code.thread.number environment)
@@ -219,6 +282,7 @@ module _ (y : System) (w : World) (b : AbstractRun y) (code : Code y.plan) (c : 
     pub walks : slice_get (now_of y b).graph_threads code.thread.number ≡ Some graph_thread
     pub phase : InPhase log.hart graph_thread log.hart.phase
     pub stored : HasStored log.hart
+    pub has_read : HasRead y b code.thread.number c
 
   -- all that is committed is taken so
   abbrev pub HasCommittedLog : ThreadInv → Type 0

@@ -1,7 +1,7 @@
 //! The step of a hart.
 ghost use Rattle.std.specs.Prelude.{◌≡◌, ◌⊎◌, ℕ, ◌+◌, ◌^◌, ◌<◌, ◌≤◌, List, Option, length};
 ghost use Rattle.line_memory.specs.declared.memory.LineMemory.{LineMemory};
-ghost use Rattle.line_memory.specs.links.MemoryRepresentation.{threads_of, logs_of, stores_of};
+ghost use Rattle.line_memory.specs.links.MemoryRepresentation.{logs_of, stores_of};
 ghost use Rattle.machine_model.specs.declared.phase.Phase.{Phase};
 ghost use Rattle.machine_model.specs.declared.phase.Phase.TheVariants.{Ended};
 ghost use Rattle.rv64_isa.specs.declared.object.Slot.{Slot};
@@ -132,29 +132,4 @@ pub fn execute(
             apply(number, effect, phase, hart, memory, locks)
         }
     }
-}
-
-/// The step by what stands at the hart's pc in its program: what `execute` does for it.
-#[inline(always)]
-pub fn step(
-    number: u32,
-    program: &Program,
-    phase: &mut Phase,
-    hart: &mut Hart,
-    memory: &mut LineMemory,
-    locks: &mut LockTable,
-) -> Reply
-    requires exists { number < length program.now }
-    requires threads { threads_of memory.old ≡ length program.now }
-    requires room { stores_of memory.old < 2 ^ 63 }
-    ensures step { IsStep (λ w model. hart_step program.now w number model) number
-        (record { phase = phase.old; hart = hart.old; memory = memory.old; locks = locks.old })
-        (record { phase = phase.new; hart = hart.new; memory = memory.new; locks = locks.new }) result }
-    ensures phase { (phase.new ≡ phase.old) ⊎ (phase.new ≡ Ended) }
-    ensures logs { logs_of memory.new ≡ logs_of memory.old }
-    ensures stores { stores_of memory.new ≤ stores_of memory.old + 1 }
-    ensures locks { length locks.new ≡ length locks.old }
-{
-    let next = program.fetch(number, hart.pc);
-    execute(number, next, phase, hart, memory, locks)
 }

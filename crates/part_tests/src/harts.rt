@@ -4,7 +4,7 @@ ghost use Rattle.ido_base.specs.declared.limits.TheConstants.{MOST_CODE_WORDS};
 
 use hart_core::hart::Hart;
 use hart_core::program::Program;
-use hart_core::step::step;
+use hart_core::step::execute;
 use ido_base::memory::OutOfMemory;
 use line_memory::memory::LineMemory;
 use lock_table::LockTable;
@@ -323,7 +323,8 @@ fn stepped(
     hart.registers[6] = x6;
     hart.registers[10] = x5;
     hart.registers[17] = x6;
-    let found = step(0, &program, &mut phase, &mut hart, &mut memory, &mut locks);
+    let next = program.fetch(0, hart.pc);
+    let found = execute(0, next, &mut phase, &mut hart, &mut memory, &mut locks);
     Ok((found, hart.registers[0], hart.registers[7], hart.pc))
 }
 

@@ -14,7 +14,7 @@ use Rattle.source_machine.proofs.Public.{found_same, run_keeps}
 use Rattle.flow_graph.specs.Nodes.{Node}
 use Rattle.flow_graph.specs.Lowering.{lowered, threads_nodes}
 use Rattle.flow_graph.specs.Liveness.{NodeAt}
-use Rattle.flow_graph.specs.Actions.{Seen, GraphThread, FlowState, seen_by}
+use Rattle.flow_graph.specs.Actions.{GraphThread, FlowState, seen_by}
 use Rattle.flow_graph.specs.Lockstep.{threads_standings}
 use Rattle.flow_graph.specs.IdempotentCuts.{Boundaries, ReadsAt, WritesAt, AreCuts}
 use Rattle.flow_graph.specs.Paths.{Element, reads_of, stored_element, Naming, naming_of, Lies, LiesInOne, LiesInWritten}
@@ -22,14 +22,17 @@ use Rattle.flow_graph.proofs.Public.{node_shaped, Good, good_after, nodes_at, re
 use Rattle.recovery_semantics.specs.ElementHistories.{number_at}
 use Rattle.recovery_semantics.specs.Attempts as attempts
 use Rattle.recovery_semantics.specs.Attempts.{solo, Writes, store_ahead}
-use Rattle.recovery_semantics.specs.Configs.{Config, now, attempt_of}
+use Rattle.c_tree.specs.WellFormed.{IsWellFormed}
+use Rattle.recovery_semantics.specs.Configs.{Config, Invariant, now, attempt_of}
+use Rattle.recovery_semantics.specs.Laws.{IsKeptBy}
 use Rattle.recovery_semantics.specs.Events.{IsGoing}
 use Rattle.recovery_semantics.proofs.Public.{held_same, solo_holders, storing, number_unstored, last_step, alone as schedules_alone}
 use Rattle.recovery_semantics.proofs.Public.{reads_are_right as resumed_reads_are_right}
-use Rattle.region_attempts.specs.GraphStates.{flow_now, flow_solo, node_of}
+use Rattle.region_attempts.specs.GraphStates.{flow_kept, flow_now, flow_solo, node_of}
+use Rattle.region_attempts.specs.Origins.{Origin}
 use Rattle.region_attempts.specs.AttemptsInRegion.{Resumes, StaysInside}
 use Rattle.region_attempts.specs.Laws.{LiveIsRight, Reads, ReadsHere, ReadAfter, ReadsAreRight, ReadsStayRight, ReadsAreAsMade, ReadersGuard}
-use Rattle.region_attempts.specs.Laws.{ReadersGuardStill, RerunReadsNothingOverwritten, StoresFollowReads}
+use Rattle.region_attempts.specs.Laws.{IsReadAt, ReadersGuardStill, RerunReadsNothingOverwritten, StoresFollowReads}
 use Rattle.region_attempts.proofs.StepBisimulation.{IsThere, is_there, guarded_at}
 use Rattle.region_attempts.proofs.GraphConfigs.{GraphConfig, graph_config}
 use Rattle.region_attempts.proofs.GraphRuns.{inner_runs, matched_run, alone}
@@ -216,20 +219,8 @@ module _ (x : f.Flat) (c : GraphConfig x) (t : ℕ) (text : f.Thread) (its : sli
 
 -- ---- Reads are right
 
--- an element that the thread guards is read at the node after so many of its steps
-pub record IsReadAt (x : f.Flat) (flow : FlowState) (m : Config) (t steps : ℕ) (one : Element) : Type 0 where
-  pub graph_thread : GraphThread
-  pub found : slice_get (flow_solo x flow t steps).graph_threads t ≡ Some graph_thread
-  pub node : Node
-  pub at : NodeAt (lowered x) graph_thread.at node
-  pub seen : Seen
-  pub reads : Contains (reads_of node.action seen) one
-  -- in a location of the node, by what the keys of the thread's text name there
-  pub lies : (text : f.Thread) → slice_get x.threads t ≡ Some text → LiesInOne (naming_of x text graph_thread.locals) node.reads one
-  pub kept_guards : Guards x m.kept t one.variable one.element
-
 module _ (x : f.Flat) (b : Boundaries) (cuts : AreCuts (lowered x) b) (c : GraphConfig x) (t : ℕ) (stays : StaysInside x b c.flow c.config t)
-    (one : Element) (p : ℕ) (r : IsReadAt x c.flow c.config t p one) where
+    (one : Element) (p : ℕ) (r : IsReadAt x c.flow c.config.kept t p one) where
   abbrev done : ℕ
   done = (attempt_of c.config t).done
 
@@ -369,24 +360,30 @@ module _ (x : f.Flat) (b : Boundaries) (cuts : AreCuts (lowered x) b) (c : Graph
     pub right : LiveIsRight c.config one
     right = resumed_reads_are_right x c.config t one.variable one.element c.invariant guards rewritten
 
-reads_are_right : ReadsAreRight
-reads_are_right x b o old schedule t one w cuts i by stays r =
-    let c = graph_config x w o old schedule i by in
-    let good = good_after x old.uncommitted w c.flow c.good in
-    right x b cuts c t stays one (attempt_of old t).done (record {
+-- where it stands now
+read_now : (x : f.Flat) (c : GraphConfig x) (t : ℕ) (one : Element) → ReadsHere x c.flow c.config t one →
+    IsReadAt x c.flow c.config.kept t (attempt_of c.config t).done one
+read_now x c t one r =
+    let good = good_after x c.config.uncommitted c.formed c.flow c.good in
+    record {
       graph_thread = r.graph_thread;
       found = graph_thread_alone x c t one r;
       node = r.node;
       at = r.at;
-      seen = seen_by (flow_now x c.flow old) r.graph_thread;
+      seen = seen_by (flow_now x c.flow c.config) r.graph_thread;
       reads = r.reads;
-      lies = λ text its. reads_lie_at x w (flow_now x c.flow old) good t text its r.graph_thread r.node one r.found r.at r.reads;
+      lies = λ text its. reads_lie_at x c.formed (flow_now x c.flow c.config) good t text its r.graph_thread r.node one r.found r.at r.reads;
       kept_guards = kept_guards x c t one r;
-    }) (omega arith) (reader_guards x c t one r)
+    }
+
+reads_are_right : ReadsAreRight
+reads_are_right x b o old schedule t one w cuts i by stays r =
+    let c = graph_config x w o old schedule i by in
+    right x b cuts c t stays one (attempt_of old t).done (read_now x c t one r) (omega arith) (reader_guards x c t one r)
 
 -- after so many steps of its own
 read_there : (x : f.Flat) (c : GraphConfig x) (t steps : ℕ) (one : Element) → steps ≤ (attempt_of c.config t).longest → (r : Reads x c.flow t steps one) →
-    IsReadAt x c.flow c.config t steps one
+    IsReadAt x c.flow c.config.kept t steps one
 read_there x c t steps one within r =
     let good = good_after x (replicate steps t) c.formed c.flow c.good in
     record {
@@ -413,6 +410,20 @@ stores_follow_reads : StoresFollowReads
 stores_follow_reads x b o old schedule t steps later one w cuts i by stays r low within wr =
     let c = graph_config x w o old schedule i by in
     stored_before x b cuts c t stays one steps (read_there x c t steps one (omega (arith, low, within)) r) later within low wr
+
+-- what is read where a thread stands is read there as long as what is kept stays
+pub read_here : (x : f.Flat) (o : Origin x) (old : Config) (schedule : List ℕ) (t : ℕ) (one : Element) → IsWellFormed x → Invariant x old →
+    IsKeptBy o.source old.kept schedule → ReadsHere x (flow_kept x o schedule) old t one →
+    IsReadAt x (flow_kept x o schedule) old.kept t (attempt_of old t).done one
+read_here x o old schedule t one w i by r = read_now x (graph_config x w o old schedule i by) t one r
+
+-- and what the attempt stores of it later it had stored before
+pub stored_before_read : (x : f.Flat) (b : Boundaries) (o : Origin x) (old : Config) (schedule : List ℕ) (t steps later : ℕ) (one : Element) →
+    IsWellFormed x → AreCuts (lowered x) b → Invariant x old → IsKeptBy o.source old.kept schedule → StaysInside x b (flow_kept x o schedule) old t →
+    IsReadAt x (flow_kept x o schedule) old.kept t steps one → steps ≤ later → later < (attempt_of old t).longest →
+    attempts.WritesAt old.kept t later one.variable one.element → Writes old.kept t steps one.variable one.element
+stored_before_read x b o old schedule t steps later one w cuts i by stays r low within wr =
+    stored_before x b cuts (graph_config x w o old schedule i by) t stays one steps r later within low wr
 
 pub readers_guard : ReadersGuard
 readers_guard x o old schedule t one w i by r = reader_guards x (graph_config x w o old schedule i by) t one r

@@ -1,5 +1,5 @@
 -- What crates above may use of this crate's proofs, passed on from one place. Declares nothing.
-pub use Rattle.region_attempts.proofs.AttemptReads.{readers_guard, rerun_reads_nothing_overwritten}
+pub use Rattle.region_attempts.proofs.AttemptReads.{read_here, readers_guard, rerun_reads_nothing_overwritten, stored_before_read}
 pub use Rattle.region_attempts.proofs.ExecutionsStayInRegion.{executions_stay}
 pub use Rattle.region_attempts.proofs.GraphConfigs.{kept_good}
 pub use Rattle.region_attempts.proofs.GraphFollowsSource.{graph_follows, graph_settles, graph_stands}

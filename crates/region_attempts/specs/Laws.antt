@@ -9,10 +9,10 @@ use Rattle.source_machine.specs.Discipline.{Guards, StateKeeps}
 use Rattle.flow_graph.specs.Nodes.{Node}
 use Rattle.flow_graph.specs.Lowering.{lowered}
 use Rattle.flow_graph.specs.Liveness.{NodeAt}
-use Rattle.flow_graph.specs.Actions.{GraphThread, FlowState, graph_start, seen_by}
+use Rattle.flow_graph.specs.Actions.{GraphThread, FlowState, Seen, graph_start, seen_by}
 use Rattle.flow_graph.specs.Lockstep.{Matches}
 use Rattle.flow_graph.specs.IdempotentCuts.{Boundaries, IsEdge, IsStoreNode, IsUnlock, BeginsRegion, AreCuts}
-use Rattle.flow_graph.specs.Paths.{Element, element, naming_of, reads_of, solo_path, IsWithinRegion, LiesInWritten}
+use Rattle.flow_graph.specs.Paths.{Element, element, naming_of, reads_of, solo_path, IsWithinRegion, LiesInOne, LiesInWritten}
 use Rattle.recovery_semantics.specs.ElementHistories.{Memory, AreStable, history_at, live_number, number_at}
 use Rattle.recovery_semantics.specs.Attempts.{Writes, WritesAt, solo}
 use Rattle.recovery_semantics.specs.Configs.{Config, Invariant, now, attempt_of}
@@ -46,6 +46,18 @@ pub record Reads (x : f.Flat) (kept : FlowState) (thread steps : ℕ) (one : Ele
   pub node : Node
   pub at : NodeAt (lowered x) graph_thread.at node
   pub reads : Contains (reads_of node.action (seen_by (flow_solo x kept thread steps) graph_thread)) one
+
+-- an element is read at the node where the thread stands after so many of its steps from what is kept: in a location of the node, by what the keys of the
+-- thread's text name there, and the thread has had the lock that guards it since what is kept
+pub record IsReadAt (x : f.Flat) (flow : FlowState) (kept : State) (thread steps : ℕ) (one : Element) : Type 0 where
+  pub graph_thread : GraphThread
+  pub found : slice_get (flow_solo x flow thread steps).graph_threads thread ≡ Some graph_thread
+  pub node : Node
+  pub at : NodeAt (lowered x) graph_thread.at node
+  pub seen : Seen
+  pub reads : Contains (reads_of node.action seen) one
+  pub lies : (text : f.Thread) → slice_get x.threads thread ≡ Some text → LiesInOne (naming_of x text graph_thread.locals) node.reads one
+  pub kept_guards : Guards x kept thread one.variable one.element
 
 -- the thread, whose attempt goes on, has made a step at a node that reads the element, or stands there: after so many steps
 pub record ReadAfter (x : f.Flat) (kept : FlowState) (m : Config) (thread steps : ℕ) (one : Element) : Type 0 where

@@ -45,8 +45,8 @@ use Rattle.compiler_correctness.specs.Translations.{now as now_events}
 use Rattle.compiler_correctness.proofs.Public.{kept_is, now_is}
 use Rattle.resumption_facts.specs.BanksBeforePoints.{BanksComeBeforePoints, IsUnkeptStore}
 use Rattle.resumption_facts.proofs.BegunStores.{written_by}
-use Rattle.resumption_facts.proofs.LastStores.{stores_told}
-use Rattle.resumption_facts.proofs.OwnStores.{IsInBoundary, IsStored, in_boundary, own_store, to_variable}
+use Rattle.resumption_facts.proofs.AccessesAlong.{accesses_told}
+use Rattle.resumption_facts.proofs.OwnStores.{IsInBoundary, IsStored, in_boundary, own_store, to_element}
 
 -- ---- The store of a point
 
@@ -207,7 +207,7 @@ module _ {y : System} {s : IsSystem y} {w : World} {h : ℕ} (site : Site y s w 
       finds_by (inr two) = absurd (omega (arith, two, one_ahead w.log n i.old i.new at i.log address bytes value i.later refl there))
 
     finds_in : IsStored site address bytes value → Finds store
-    finds_in (to_variable low) = absurd (omega (arith, there, variables_are_apart w.log n address 0 low))
+    finds_in (to_element to) = absurd (omega (arith, there, variables_are_apart w.log n address 0 to.low))
     finds_in (in_boundary i) = finds_by i i.stage
 
   module _ (law : FragmentsGoOn) (marks : MarksPass) where
@@ -226,8 +226,7 @@ module _ (y : System) (s : IsSystem y) (w : World) (stands : Simulates y s w) wh
   ready_now h hart effect next =
       runs_ready y s w h stands (record { hart = hart; here = next.here; phase_is = running_is hart.phase next.runs })
 
-  module _ (law : FragmentsGoOn) (marks : MarksPass) (h : ℕ) (hart : Hart) (effect : Effect) (next : IsNext y.runs.program w h hart effect)
-      (is : is_point_store w.log h effect ≡ true) where
+  module _ (h : ℕ) (hart : Hart) (effect : Effect) (next : IsNext y.runs.program w h hart effect) where
     abbrev site : Site y s w h
     site = (ready_now h hart effect next).site
 
@@ -237,15 +236,16 @@ module _ (y : System) (s : IsSystem y) (w : World) (stands : Simulates y s w) wh
         let z = site.stands in
         (runs_held y s w z.abstract z.ghosts h z.machine.log z.machine.sound i z.locks).1
 
-    pub finds_now : Finds site holds effect
-    finds_now =
-        finds site holds law marks hart effect (subst (λ (n : ℕ). IsNext y.runs.program w n hart effect) (sym (same_number site)) next)
-        (subst (λ (n : ℕ). is_point_store w.log n effect ≡ true) (sym (same_number site)) is) (ready_now h hart effect next).ready
+    module _ (law : FragmentsGoOn) (marks : MarksPass) (is : is_point_store w.log h effect ≡ true) where
+      pub finds_now : Finds site holds effect
+      finds_now =
+          finds site holds law marks hart effect (subst (λ (n : ℕ). IsNext y.runs.program w n hart effect) (sym (same_number site)) next)
+          (subst (λ (n : ℕ). is_point_store w.log n effect ≡ true) (sym (same_number site)) is) (ready_now h hart effect next).ready
 
-    -- what the hart has stored last is durable
-    pub stored_last : (word position : ℕ) → (stands.ghosts h).last_stores word ≡ Some position → position ≤ (word_at w.words word).durable
-    stored_last word position last =
-        finds_now.stored word position (ap (λ (m : ℕ → Option ℕ). m word) ((ready_now h hart effect next).similar.same h).last ∙ last)
+      -- what the hart has stored last is durable
+      pub stored_last : (word position : ℕ) → (stands.ghosts h).last_stores word ≡ Some position → position ≤ (word_at w.words word).durable
+      stored_last word position last =
+          finds_now.stored word position (ap (λ (m : ℕ → Option ℕ). m word) ((ready_now h hart effect next).similar.same h).last ∙ last)
 
 -- ---- After any events
 
@@ -282,8 +282,8 @@ banks_come_before_points machines fragments_step cores_step law marks y s events
     let site = r.site in
     let z = site.stands in
     let number = same_number site in
-    let f = finds_now y s w stands law marks h hart effect next is in
-    let told = stores_told y s fragments_step cores_step law events in
+    let f = finds_now y s w stands h hart effect next law marks is in
+    let told = accesses_told y s fragments_step cores_step law events in
     record {
       recorded = f.recorded;
       stores = f.stores ∙ ap (λ (n : ℕ). Stores (point_at w.log n) 8 f.recorded.point) number;
@@ -295,7 +295,7 @@ banks_come_before_points machines fragments_step cores_step law marks y s events
           (as_source y s z.abstract).now_matches;
       describes = f.describes;
       taken = λ lock among. subst (λ (n : ℕ). HartHolds w n lock) number (f.taken lock among);
-      stored = λ word position last. stored_last y s w told.stands law marks h hart effect next is word position (told.last h word ∙ last);
+      stored = λ word position last. stored_last y s w told.stands h hart effect next law marks is word position (told.last h word ∙ last);
       stable = λ v e writes. stable_at y s events (machines y s events) z.abstract r.similar.abstract (z.memory) h v e
           (subst (λ (n : ℕ). StableOf y z.abstract n v e) number (f.stable v e)) writes;
     }

@@ -27,7 +27,7 @@ use Rattle.crash_simulation.specs.Systems.{System, IsSystem}
 use Rattle.crash_simulation.proofs.Public.{elsewhere, next_store, not_there, own_by, runs_held, runs_ready, same_number}
 use Rattle.resumption_facts.specs.BanksKept.{BanksAreKept}
 use Rattle.resumption_facts.specs.Points.{IsPointOf, named_in}
-use Rattle.resumption_facts.proofs.OwnStores.{in_boundary, own_store, to_variable}
+use Rattle.resumption_facts.proofs.OwnStores.{in_boundary, own_store, to_element}
 
 module _ (fragments_step : FragmentsStep) (cores_step : CoresStep) (law : FragmentsGoOn) (marks : MarksPass)
     (y : System) (s : IsSystem y) (w : World) (stands : Simulates y s w) (h point slot : ℕ)
@@ -68,7 +68,7 @@ module _ (fragments_step : FragmentsStep) (cores_step : CoresStep) (law : Fragme
         own_store r.site hart address bytes value (subst (λ (n : ℕ). IsNext y.runs.program w n hart (Stores address bytes value)) (sym number) next) law
         marks held r.ready in
         elim it [
-          | to_variable low ↦ λ same. variables_are_apart w.log h address index low (same ∙ in_log)
+          | to_element to ↦ λ same. variables_are_apart w.log h address index to.low (same ∙ in_log)
           | in_boundary b ↦
               subst (λ (n : ℕ). byte_number address / 8 ≢ bank_word w.log n (bank_of point) slot) (number ∙ own)
               (log_facts.bank_kept w.log _ b.old b.new (config_of w b.hart (Stores address bytes value ∷ b.later)) address bytes value b.later b.log refl

@@ -1,10 +1,11 @@
 mod Calls
 mod OwnStores
 mod BegunStores
-mod LastStores
+mod AccessesAlong
 mod BanksBeforePoints
 mod BanksKept
 mod RegistersResumed
+mod StoresFollowLoads
 mod StoresFollowReads
 mod Releases
 mod RecordsFollowLocks

@@ -1,5 +1,5 @@
 -- What the next store of a hart is: one to a variable, or the first effect of its boundary, which is under way or begins.
-use Rattle.std.proofs.Common.{◌≡◌, ◌≢◌, ◌⊎◌, inl, inr, refl, ℕ, ◌+◌, ◌*◌, ◌<◌, suc, List, [], ◌∷◌, ◌++◌, ap, sym, ◌∙◌, subst, true, false, Some, slice_get}
+use Rattle.std.proofs.Common.{◌≡◌, ◌≢◌, ◌⊎◌, inl, inr, refl, ℕ, ◌+◌, ◌*◌, ◌<◌, ◌≤◌, suc, List, [], ◌∷◌, ◌++◌, ap, sym, ◌∙◌, subst, true, false, Some, slice_get}
 use Rattle.std.proofs.lemmas.Bool.{true≢false}
 use Rattle.ido_base.specs.Layout.{line_bytes, variable_lines, variables_base}
 use Rattle.c_tree.specs.Exprs.{LockName}
@@ -18,16 +18,25 @@ use Rattle.log_states.specs.Machines.{IsNext, config_of}
 use Rattle.log_states.specs.Stages.{LogIs, fences_ahead, is_store}
 use Rattle.log_states.proofs.Public.{address_of, boundaries_fence, one_effect}
 use Rattle.thread_code.specs.NodeCodeEffects.{keeping}
-use Rattle.thread_runs.specs.CodeFragments.{ExitPoint, IsMadeBy, AreSeen, effects_of, on_machine}
-use Rattle.thread_runs.specs.Laws.{FragmentsGoOn, IsAtSomeMark, MarksPass}
+use Rattle.thread_runs.specs.CodeFragments.{ExitPoint, IsMadeBy, AreSeen, effects_of, on_machine, stage_after}
+use Rattle.thread_runs.specs.Laws.{FragmentsGoOn, IsAtSomeMark, MarksPass, PassesMark}
 use Rattle.crash_simulation.specs.AbstractRuns.{now_of}
 use Rattle.crash_simulation.specs.InstructionSteps as moving
 use Rattle.crash_simulation.specs.InstructionSteps.{AtCoreNow, IsReadyToStep, OnFragmentNow, Site}
 use Rattle.crash_simulation.specs.SimulationRelation.{AreHeld}
 use Rattle.crash_simulation.specs.Systems.{System, IsSystem}
 use Rattle.crash_simulation.proofs.Public.{AtNode, Made, MakesStore, bounds_first, by_node, cleans_first, found, held_up_stores_none, in_variables}
-use Rattle.crash_simulation.proofs.Public.{is_quiet, kind_is, log_first, made_by, making_mark, no_effect, quietly_mark, unlocking_mark, view}
+use Rattle.crash_simulation.proofs.Public.{follows, is_quiet, kind_is, log_first, made_by, making_mark, no_effect, quietly_mark, stored_element}
+use Rattle.crash_simulation.proofs.Public.{unlocking_mark, view}
+use Rattle.crash_simulation.specs.ThreadGhosts.{IsElementAt, ReadsAt}
+use Rattle.recovery_semantics.specs.Attempts.{Writes}
+use Rattle.recovery_semantics.specs.Configs.{attempt_of}
 use Rattle.resumption_facts.proofs.Calls.{calls_next, calls_now}
+
+-- how many bytes an effect stores
+abbrev bytes_stored : Effect → ℕ
+bytes_stored (Stores address bytes value) = bytes
+bytes_stored effect = 0
 
 module _ {y : System} {s : IsSystem y} {w : World} {h : ℕ} (site : Site y s w h) where
   open site use {stands}
@@ -43,8 +52,16 @@ module _ {y : System} {s : IsSystem y} {w : World} {h : ℕ} (site : Site y s w 
     pub log : LogIs w.log n old new (config_of w hart (store ∷ later))
     pub stage : ((c.rest ≡ store ∷ later) × (new ≡ c.new)) ⊎ (fences_ahead (store ∷ later) ≡ 2)
 
+  -- the store is to an element, and what the attempt's steps have read of that they had stored before
+  pub record IsToElement (address bytes : ℕ) : Type 0 where
+    pub variable : ℕ
+    pub number : ℕ
+    pub at : IsElementAt y variable number address bytes
+    pub low : address < variables_base + line_bytes * variable_lines
+    pub follows : (step : ℕ) → step ≤ (attempt_of b.config n).done → ReadsAt y b n step variable number → Writes b.config.kept n step variable number
+
   pub data IsStored (address bytes value : ℕ) : Type 0 where
-    to_variable : address < variables_base + line_bytes * variable_lines → IsStored address bytes value
+    to_element : IsToElement address bytes → IsStored address bytes value
     in_boundary : IsInBoundary (Stores address bytes value) → IsStored address bytes value
 
   module _ (hart : Hart) (address bytes value : ℕ) (next : IsNext y.runs.program w n hart (Stores address bytes value)) where
@@ -100,6 +117,8 @@ module _ {y : System} {s : IsSystem y} {w : World} {h : ℕ} (site : Site y s w 
       pub later : List Effect
       pub first : m.effects ≡ store ∷ later
       pub made : IsMadeBy y.plan code.thread places e store
+      pub passes : PassesMark y.plan code.thread places (on_machine y.runs.program w n z) e (stage_after y.plan code.thread places node at side e)
+          m.steps m.effects m.at
 
     first_at : MarksPass → {z : MarkedEnvironment} {node side : ℕ} {at : Seen} {registers : List ℕ} {e : a.Effect} →
         (m : IsAtSomeMark y.plan code.thread places (on_machine y.runs.program w n z) node at side registers e) → IsFirst m
@@ -112,6 +131,7 @@ module _ {y : System} {s : IsSystem y} {w : World} {h : ℕ} (site : Site y s w 
                 later = p.later;
                 first = p.effects_are ∙ ap (λ (f : Effect). effects_of f ++ p.later) is;
                 made = subst (λ (f : Effect). IsMadeBy y.plan code.thread places e f) is p.made;
+                passes = p;
               }
           | inr stays ↦
               absurd (not_it on.hart stays.drains.effect
@@ -147,8 +167,21 @@ module _ {y : System} {s : IsSystem y} {w : World} {h : ℕ} (site : Site y s w 
           let m = making_mark node (found node).0 (found node).1 makes in
           let f = first_at marks m in
           let is = f.made _ (kind_is node (found node).0 (found node).1 makes) in
-          to_variable (subst (λ (at : ℕ). at < variables_base + line_bytes * variable_lines) (sym (ap address_of is.is))
-          (in_variables node (found node).0 (found node).1 makes))
+          let its = stored_element node (found node).0 (found node).1 makes f.passes in
+          to_element (record {
+            variable = makes.store.variable;
+            number = makes.store.element;
+            at = record {
+              is = its.is;
+              there = its.there;
+              within = its.within;
+              address_is = ap address_of is.is ∙ its.address_is;
+              bytes_are = ap bytes_stored is.is ∙ its.bytes_are;
+            };
+            low = subst (λ (at : ℕ). at < variables_base + line_bytes * variable_lines) (sym (ap address_of is.is))
+                (in_variables node (found node).0 (found node).1 makes);
+            follows = follows node (found node).0 (found node).1 makes f.passes;
+          })
 
       by_unlock : (lock : LockName) (to : ℕ) → (found node).0.action ≡ Unlock lock to → Stored
       by_unlock lock to is =

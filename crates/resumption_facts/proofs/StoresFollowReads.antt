@@ -19,7 +19,7 @@ use Rattle.crash_simulation.proofs.Public.{as_source, resumed}
 use Rattle.compiler_correctness.specs.Laws.{translation_of}
 use Rattle.compiler_correctness.specs.Translations.{source, steps}
 use Rattle.compiler_correctness.proofs.Public.{kept_is}
-use Rattle.resumption_facts.specs.StoresFollowReads.{RerunsReadNothingOverwritten}
+use Rattle.resumption_facts.specs.StoresFollowReads.{NoReadIsOverwritten}
 use Rattle.resumption_facts.proofs.BegunStores.{done_by}
 
 module _ (machines : MachinesResume) (y : System) (s : IsSystem y) (events : List Event) (thread : ℕ) where
@@ -56,8 +56,8 @@ module _ (machines : MachinesResume) (y : System) (s : IsSystem y) (events : Lis
   matches : Matches (flat_of y) (kept_of y b) (source (translation_of y) (schedules (steps (translation_of y) events)))
   matches = subst (λ (z : State). Matches (flat_of y) (kept_of y b) z) (sym kept) (as_source y s b).kept_matches
 
-pub reruns_read_nothing_overwritten : MachinesResume → RerunsReadNothingOverwritten
-reruns_read_nothing_overwritten machines y s events thread = record {
+pub no_read_is_overwritten : MachinesResume → NoReadIsOverwritten
+no_read_is_overwritten machines y s events thread = record {
   flow = kept_of y (machines y s events).is.stands.abstract;
   matches = matches machines y s events thread;
   unread = unread machines y s events thread;

@@ -3,7 +3,7 @@ ghost use Rattle.resumption_facts.specs.BanksBeforePoints.{BanksComeBeforePoints
 ghost use Rattle.resumption_facts.specs.BanksKept.{BanksAreKept};
 ghost use Rattle.resumption_facts.specs.RecordsFollowLocks.{RecordsFollowLocks};
 ghost use Rattle.resumption_facts.specs.RegistersResumed.{RegistersAreResumed};
-ghost use Rattle.resumption_facts.specs.StoresFollowReads.{RerunsReadNothingOverwritten};
+ghost use Rattle.resumption_facts.specs.StoresFollowReads.{NoLoadIsOverwritten, NoReadIsOverwritten};
 
 use compiler_correctness::laws::machines_record;
 use crash_simulation::laws::{cores_step, events_stand, fragments_step, machines_resume};
@@ -44,12 +44,18 @@ pub fn registers_are_resumed()
     resumed_go_on();
 }
 
-/// Rerun reads nothing overwritten: from where a thread would be resumed on it stores nothing that it has read before on the way, unless it had stored that
-/// before it read it.
+/// Rerun reads nothing overwritten: from where a hart would be resumed to the store of its point it stores to no byte that it has loaded on the way, unless
+/// it had stored to that byte before it loaded it. And of the source's steps that it has begun and that aren't kept none stores an element that one of
+/// them has read before, unless an earlier one had stored it.
 pub fn reruns_read_nothing_overwritten()
-    ensures { RerunsReadNothingOverwritten }
+    ensures loads { NoLoadIsOverwritten }
+    ensures steps { NoReadIsOverwritten }
 {
     machines_resume();
+    cores_step();
+    fragments_step();
+    fragments_go_on();
+    marks_pass();
 }
 
 /// Record follows locks: a hart's record is the set that its thread holds where it would be resumed. The hart holds all of it, unless it takes it in

@@ -104,7 +104,8 @@ point_kept program w Start h sound there same =
     after_start program w (λ (v : World). durable_point v.log v.words h ≡ durable_point w.log w.words h) refl refl
 
 -- no pending steps are bound up to where points were seen
-pub above_seen : (sections : Sections) (harts : ℕ) (w : World) (s : Steps) → AreSeen sections harts w → AreOpen harts w.log w.words s → AreAbove sections harts s
+pub above_seen : (sections : Sections) (harts : ℕ) (w : World) (s : Steps) → AreSeen sections harts w → AreOpen harts w.log w.words s →
+    AreAbove sections harts s
 above_seen sections harts w s seen is_open h below = subst (λ (p : ℕ). IsNoneDurable h p s.pending) (sym (seen h below)) (is_open h below)
 
 none_ends : (b : Bool) → (not b && b) ≡ false

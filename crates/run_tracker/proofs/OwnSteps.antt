@@ -1,6 +1,7 @@
 -- The pending steps of one hart, what becomes of them, and how many there are.
 use Rattle.std.proofs.Common.{◌≡◌, ◌≢◌, ◌⊎◌, ℕ, zero, suc, ◌+◌, ◌<◌, ◌≤◌, List, [], ◌∷◌, ◌++◌, length, map, filter, replicate, Option, Some, None}
-use Rattle.std.proofs.Common.{Bool, true, false, not, nat_le, ◌==◌, ◌&&◌, refl, ap, ap₂, sym, subst, ◌∙◌, arith, inl, inr, append-nil, append_assoc, length-append}
+use Rattle.std.proofs.Common.{Bool, true, false, not, nat_le, ◌==◌, ◌&&◌, refl, ap, ap₂, sym}
+use Rattle.std.proofs.Common.{subst, ◌∙◌, arith, inl, inr, append-nil, append_assoc, length-append}
 use Rattle.std.specs.Prelude.{is_none, if◌then◌else◌}
 use Rattle.std.proofs.lemmas.Bool.{and_parts, cases_eq, cases_lt, eq-eqb, eqb-true, le-leb, leb-true, ne_eqb, true≢false}
 use Rattle.std.proofs.lemmas.List.{length-replicate, map-append, replicate-append-replicate}

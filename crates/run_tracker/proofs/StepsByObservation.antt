@@ -96,7 +96,8 @@ module _ (program : List (List Slot)) (marks : List (List ℕ)) (machine : Machi
       by_running (inl running) = by_moved running (cases_Bool (has_moved (reply_to program w (Step h))))
       by_running (inr none) = none_stores (none_running program w h stepped.seen.hart stepped.seen.found none)
 
-  pub kept_none : is_drained reply ≡ false → (s : Steps) → AreOpen (length program) w.log w.words s → steps_after marks program w (Step h) s ≡ with_step marks program w h s
+  pub kept_none : is_drained reply ≡ false → (s : Steps) → AreOpen (length program) w.log w.words s →
+      steps_after marks program w (Step h) s ≡ with_step marks program w h s
   unfolding steps_after
   kept_none quiet s is_open =
       all_kept_none (length program) w.log next.words (length program) (with_step marks program w h s) (omega arith)

@@ -62,7 +62,8 @@ pub returns-in-Drained-clause-steps : goal.returns-in-Drained-clause-steps
 returns-in-Drained-clause-steps c = λ program marks w s stepped a is_open seen.
     let none = held_up program marks c.args.machine.now c.args.hart c.args.observation c.args.reply w stepped
     (ap has_moved c.in-Drained.is) in
-    let after = kept_after program marks c.args.machine.now c.args.hart c.args.observation c.args.reply w stepped none s _ (c.requires.harts ∙ sym stepped.many) in
+    let after = kept_after program marks c.args.machine.now c.args.hart c.args.observation c.args.reply w stepped none s _
+    (c.requires.harts ∙ sym stepped.many) in
     let next = after_event program w (Step c.args.hart) in
     subst (AccountInv c.keep_all.new.account) after
     (subst (λ (l : Log). AccountInv c.keep_all.new.account (with_all_kept l next.words (length c.args.account.now.harts.items) s)) stepped.log

@@ -33,7 +33,9 @@ pub note-requires-clause-after : goal.note-requires-clause-after
 note-requires-clause-after c =
     let program = program_in c.args.machine.now in
     let ready = c.requires.at in
-    let after = c.execute-reply.ensures.world ready.world ready.at.stands (next_fetched c.args.tables.now (program_in c.args.machine.now) ready.marks ready.world c.args.hart c.requires.exists ready.tables_are c.next_entry-next.result c.slot_at.result c.slot_at.ensures (c.next_entry-next.ensures ready.world ready.at.stands)) in
+    let after = c.execute-reply.ensures.world ready.world ready.at.stands
+    (next_fetched c.args.tables.now (program_in c.args.machine.now) ready.marks ready.world c.args.hart c.requires.exists ready.tables_are
+    c.next_entry-next.result c.slot_at.result c.slot_at.ensures (c.next_entry-next.ensures ready.world ready.at.stands)) in
     let table = get_some c.args.tables.now c.args.hart (omega (arith, ready.tables_are.count, c.requires.exists)) in
     record {
       marks = ready.marks;
@@ -65,7 +67,9 @@ note-requires-clause-after c =
 pub returns-clause-steps : goal.returns-clause-steps
 returns-clause-steps c = λ marks w s tables stands a is_open seen.
     let ready = c.requires.at in
-    let after = c.execute-reply.ensures.world w stands (next_fetched c.args.tables.now (program_in c.args.machine.now) ready.marks w c.args.hart c.requires.exists ready.tables_are c.next_entry-next.result c.slot_at.result c.slot_at.ensures (c.next_entry-next.ensures w stands)) in
+    let after = c.execute-reply.ensures.world w stands
+    (next_fetched c.args.tables.now (program_in c.args.machine.now) ready.marks w c.args.hart c.requires.exists ready.tables_are c.next_entry-next.result
+    c.slot_at.result c.slot_at.ensures (c.next_entry-next.ensures w stands)) in
     let table = get_some c.args.tables.now c.args.hart (omega (arith, tables.count, c.requires.exists)) in
     c.note.ensures.steps (program_in c.args.machine.now) marks w s
     (record {
@@ -83,7 +87,9 @@ returns-clause-steps c = λ marks w s tables stands a is_open seen.
 pub returns-clause-counts : goal.returns-clause-counts
 returns-clause-counts c = λ w stands.
     let ready = c.requires.at in
-    let after = c.execute-reply.ensures.world w stands (next_fetched c.args.tables.now (program_in c.args.machine.now) ready.marks w c.args.hart c.requires.exists ready.tables_are c.next_entry-next.result c.slot_at.result c.slot_at.ensures (c.next_entry-next.ensures w stands)) in
+    let after = c.execute-reply.ensures.world w stands
+    (next_fetched c.args.tables.now (program_in c.args.machine.now) ready.marks w c.args.hart c.requires.exists ready.tables_are c.next_entry-next.result
+    c.slot_at.result c.slot_at.ensures (c.next_entry-next.ensures w stands)) in
     let table = get_some c.args.tables.now c.args.hart (omega (arith, c.requires.at.tables_are.count, c.requires.exists)) in
     c.note.ensures.counts (program_in c.args.machine.now) c.requires.at.marks w
     (record {
