@@ -7,14 +7,24 @@ _ido() {
     if ((COMP_CWORD == at)); then
         words='compile list regions order play image recover upgrade source seeded live make load sweep'
         ((at == 1)) && words+=' --explain --help --version'
+    elif [[ ${COMP_WORDS[COMP_CWORD - 1]} == --scheme ]]; then
+        words='ido justdo'
+    elif [[ ${COMP_WORDS[at]} == compile ]]; then
+        words='--scheme'
     elif [[ ${COMP_WORDS[at]} == regions ]]; then
         words='--least'
     elif [[ ${COMP_WORDS[at]} == play ]]; then
-        words='--fences'
+        words='--fences --scheme'
+    elif [[ ${COMP_WORDS[at]} == image ]]; then
+        words='--scheme'
     elif [[ ${COMP_WORDS[at]} == seeded ]]; then
-        words='--journal'
+        words='--journal --scheme'
     elif [[ ${COMP_WORDS[at]} == live ]]; then
-        words='--evict --journal'
+        words='--evict --journal --scheme'
+    elif [[ ${COMP_WORDS[at]} == load ]]; then
+        words='--scheme'
+    elif [[ ${COMP_WORDS[at]} == sweep ]]; then
+        words='--scheme'
     fi
     [[ $words ]] && mapfile -t COMPREPLY < <(compgen -W "$words" -- "$current")
 }

@@ -1,21 +1,24 @@
 """The compiled code of a source: its listing, and which words belong to which node.
 
 The program tells nodes (`ido regions`) and words (`ido list`), but not which words a node has. A store, a lock, an unlock, an
-end and a boundary can be told by their words. Neighbouring evaluations and tests can't always: where the words between two
-of the others can be given to them in more than one way, they stay one piece.
+end and a boundary can be told by their words, and so can an assignment of a local that stands in a frame. Other neighbouring
+evaluations and tests can't always: where the words between two of the others can be given to them in more than one way, they
+stay one piece.
 """
 
 import collections
 import re
 
 from ido_tools.fault import BadInput
+from ido_tools.limits import LINE_BYTES, LOG_LINES
+from ido_tools.logs import OF_REGIONS, WORD_BYTES
 
 # A node as `ido regions` tells it.
 Told = collections.namedtuple("Told", "number kind place is_cut")
 Word = collections.namedtuple("Word", "address word name operands")
 
-# A boundary: its words from `start` to `end`, the numbers of the mutexes (None of one with a key, which its words compute) and registers that it keeps,
-# and where it is resumed (None where it ends a section).
+# A boundary: its words from `start` to `end`, the numbers of the mutexes (None of one with a key, which its words compute) and registers that it keeps (those
+# of the write that comes next, where locals stand in a frame), and where it is resumed (None where it ends a section).
 Boundary = collections.namedtuple("Boundary", "start end locks live resume")
 
 # The words from `start` to `end` of the nodes from `first` to `last`, numbered within their thread.
@@ -33,8 +36,8 @@ LOCALS = frozenset(f"x{it}" for it in [*range(8, 28)] if it not in (10, 17))
 
 # The first words of boundaries and calls.
 FLIP = ("xori", ["x3", "x3", "1024"])
-# Where the first lock of a bank's list stands in the log's first bank.
-FIRST_LISTED = 320
+# By these the address of a frame's word begins, and by no other node's words.
+FRAMED = "lui", "x28"
 CALL_NUMBERS = {"lock": "1", "unlock": "2", "end": "3"}
 
 # No more ways to give words to nodes than this are told apart.
@@ -119,9 +122,10 @@ def constant(words, register):
 class ThreadCode:
     """The words of a thread, given to its nodes."""
 
-    def __init__(self, words, nodes):
+    def __init__(self, words, nodes, log=OF_REGIONS):
         self.words = words
         self.nodes = nodes
+        self.log = log
         self.pieces = []
         self.at = 0
         self.give_all()
@@ -160,22 +164,23 @@ class ThreadCode:
         return Boundary(start, at + 4, [], [], None)
 
     def keeping(self, start):
-        """A boundary that keeps registers."""
+        """A boundary that keeps mutexes, and registers or which write comes next."""
         at = self.past(start + 1, "x31")
         self.need(at, "add", ["x30", "x31", "x3"])
         slot = self.past(at + 1, "x7")
         count = constant(self.words[at + 1 : slot], "x7")
-        self.need(slot, "sd", ["x7", "64(x30)"])
+        self.need(slot, "sd", ["x7", self.banked(0)])
         at = slot + 1
         locks = []
         for it in range(count):
-            past = self.listed_at(at, f"{FIRST_LISTED + 8 * it}(x30)")
+            past = self.listed_at(at, self.banked(self.log.listed + it))
             is_plain = self.past(at, "x5") == past and self.words[at].operands[1] in ("x0", "0")
             locks.append(constant(self.words[at:past], "x5") if is_plain else None)
             at = past + 1
         live = []
-        while self.is_at(at, "sd") and memory_operand(self.words[at])[1] == "x30":
-            live.append(int(self.words[at].operands[0][1:]))
+        while self.is_banked(at) or self.is_at(at, "addi") and self.words[at].operands[:2] == ["x7", "x0"]:
+            if self.is_banked(at) and self.words[at].operands[0] != "x7":
+                live.append(int(self.words[at].operands[0][1:]))
             at += 1
         while self.is_at(at, "addi") and self.is_at(at + 1, "cbo.clean", ["(x7)"]):
             at += 2
@@ -186,6 +191,14 @@ class ThreadCode:
         self.need(at + 5, "sd", ["x30", "0(x31)"])
         self.need(at + 7, "fence")
         return Boundary(start, at + 8, locks, live, resume)
+
+    def banked(self, word):
+        """The operand of a word of the bank."""
+        return f"{self.log.banks[0] + WORD_BYTES * word}(x30)"
+
+    def is_banked(self, at):
+        """Whether a word of the bank is stored there."""
+        return self.is_at(at, "sd") and memory_operand(self.words[at])[1] == "x30"
 
     def listed_at(self, at, slot):
         """Where the number of a lock is stored, after the words that compute it."""
@@ -198,7 +211,7 @@ class ThreadCode:
         """Gives each word to a node."""
         number = 0
         while number < len(self.nodes):
-            if self.nodes[number].kind in ("eval", "test"):
+            if self.nodes[number].kind in ("eval", "test") and not self.is_framed(number):
                 number = self.give_soft(number)
             else:
                 self.give_hard(number)
@@ -206,9 +219,19 @@ class ThreadCode:
         if self.at != len(self.words):
             raise NoLayout("words are left")
 
+    def is_before_store(self, number):
+        """Whether a node is followed by a store, whose address and value it computes then."""
+        return number + 1 < len(self.nodes) and self.nodes[number + 1].kind == "store"
+
+    def is_framed(self, number):
+        """Whether a node assigns a local that stands in the frame."""
+        return self.log.frame is not None and self.nodes[number].kind == "eval" and not self.is_before_store(number)
+
     def chosen(self, number):
-        """The boundary that was chosen before a node, or None."""
+        """The boundary before the core of a node: where locals stand in registers a chosen one, else that of a write; or None."""
         node = self.nodes[number]
+        if self.log.frame is not None:
+            return self.boundary(self.at) if node.kind == "store" else None
         return self.boundary(self.at) if node.is_cut and node.kind != "unlock" else None
 
     def skip_jump(self, at):
@@ -216,7 +239,7 @@ class ThreadCode:
         return at + 1 if self.is_at(at, "jal") else at
 
     def give_hard(self, number):
-        """Gives words to a store, a lock, an unlock or an end."""
+        """Gives words to a store, a lock, an unlock, an end, or an assignment of a local in the frame."""
         kind, start = self.nodes[number].kind, self.at
         boundary = self.chosen(number)
         at = boundary.end if boundary else start
@@ -229,10 +252,33 @@ class ThreadCode:
             at = self.call_end(at, kind)
             boundary = self.boundary(at)
             at = boundary.end
+        elif kind == "eval":
+            boundary, at = self.assigned_from(at)
         else:
             at = self.call_end(at, kind)
         self.at = at if kind == "end" else self.skip_jump(at)
         self.pieces.append(Piece(number, number, start, self.at, boundary))
+
+    def begins_framed(self, at):
+        """Whether the words of an assignment of a local in the frame begin there."""
+        return self.log.frame is not None and self.is_at(at, FRAMED[0]) and result_of(self.words[at]) == FRAMED[1]
+
+    def assigned_from(self, start):
+        """The boundary in the words of such an assignment, or None outside sections, and the position past them."""
+        at, boundary = self.past(start, FRAMED[1]), None
+        while at < len(self.words) and not (self.is_store(at) or self.is_at(at, *FLIP)):
+            at += 1
+        if self.is_at(at, *FLIP):
+            boundary = self.keeping(at)
+            at = boundary.end
+        return boundary, self.store_end(at)
+
+    def frame_word(self, piece):
+        """The number of the frame's word that a piece assigns, or None."""
+        if not self.is_framed(piece.first):
+            return None
+        address = constant(self.words[piece.start : self.past(piece.start, FRAMED[1])], FRAMED[1])
+        return (address % (LINE_BYTES * LOG_LINES) - self.log.frame) // WORD_BYTES
 
     def store_end(self, at):
         """The position past a store."""
@@ -258,7 +304,7 @@ class ThreadCode:
     def next_hard(self, at):
         """Where the next words stand that are no evaluation's and no test's."""
         while at < len(self.words):
-            if self.is_at(at, *FLIP) or self.is_store(at):
+            if self.is_at(at, *FLIP) or self.is_store(at) or self.begins_framed(at):
                 return at
             if self.is_at(at, "fence"):
                 return at - 1 if self.is_at(at - 1, "lui") else at - 2
@@ -281,7 +327,7 @@ class ThreadCode:
         boundary = self.chosen(number)
         first = boundary.end if boundary else start
         last = number + 1
-        while last < len(self.nodes) and self.nodes[last].kind in ("eval", "test") and not self.nodes[last].is_cut:
+        while last < len(self.nodes) and self.nodes[last].kind in ("eval", "test") and not (self.nodes[last].is_cut or self.is_framed(last)):
             last += 1
         end = self.next_hard(first)
         ends = self.split(number, last, first, end)
@@ -323,8 +369,7 @@ class ThreadCode:
         """Where the words of a node that begin there may end."""
         if self.nodes[number].kind == "test":
             return self.test_ends(begin, end)
-        follows = number + 1 < len(self.nodes) and self.nodes[number + 1].kind == "store"
-        return self.value_ends(begin, end, PENDING if follows else None)
+        return self.value_ends(begin, end, PENDING if self.is_before_store(number) else None)
 
     def inner_end(self, at, end, begin):
         """The position that a branch within an evaluation leads to, or None where it leads out."""

@@ -2,6 +2,7 @@
 
 from ido_tools.code import LOCALS, NoLayout, ThreadCode, parse_listing, parse_regions, result_of
 from ido_tools.fault import BadInput
+from ido_tools.files import parse_object
 from ido_tools.source import Source
 
 
@@ -11,9 +12,11 @@ class Compiled:
     def __init__(self, program, text):
         regions = parse_regions(program.ask_well(["regions"], text))
         self.content = program.ask_well(["compile"], text)
+        self.log = parse_object(self.content).log
         listing = parse_listing(program.ask_well(["list"], self.content))
         self.source = Source(text)
-        self.told = [nodes for _, nodes in regions]
+        # Boundaries are chosen where locals stand in registers alone.
+        self.told = [[it._replace(is_cut=it.is_cut and self.log.frame is None) for it in nodes] for _, nodes in regions]
         self.nodes = [self.matching(number, nodes) for number, nodes in enumerate(self.told)]
         self.threads = [self.code_of(number, words) for number, words in enumerate(listing)]
 
@@ -28,12 +31,13 @@ class Compiled:
     def code_of(self, number, words):
         """The words of a thread, given to its nodes."""
         try:
-            return ThreadCode(words, self.told[number])
+            return ThreadCode(words, self.told[number], self.log)
         except NoLayout as error:
             raise BadInput(f"the words of thread {number} can't be given to its nodes: {error}") from error
 
     def locals_at(self, number, boundary):
-        """The locals that stand in registers at a boundary of a thread, by the registers' numbers; one that can't be told is left out."""
+        """The locals that stand in registers, or in the frame, at a boundary of a thread, by the numbers of the registers or words; one that can't be told is
+        left out."""
         code = self.threads[number]
         at = next(it for it, piece in enumerate(code.pieces) if piece.boundary is boundary)
         given = [self.given_by(number, it) for it in code.pieces]
@@ -50,9 +54,17 @@ class Compiled:
                     waiting.append(it)
         return {register: next(iter(it)) for register, it in (before[at] or {}).items() if len(it) == 1}
 
-    def given_by(self, number, piece):
-        """Which locals may stand in registers to which a piece has given numbers."""
+    def assigned_after(self, number, boundary):
+        """The local in the frame whose assignment a boundary of a thread stands in, or None."""
         code = self.threads[number]
+        piece = next(it for it in code.pieces if it.boundary is boundary)
+        return None if code.frame_word(piece) is None else self.nodes[number][piece.first].local
+
+    def given_by(self, number, piece):
+        """Which locals may stand in registers, or in the frame's word, to which a piece has given numbers."""
+        code = self.threads[number]
+        if code.frame_word(piece) is not None:
+            return {code.frame_word(piece): frozenset([self.nodes[number][piece.first].local])}
         written = [int(it[1:]) for it in map(result_of, code.words[piece.start : piece.end]) if it in LOCALS]
         named = [it.local for it in self.nodes[number][piece.first : piece.last + 1] if it.local is not None]
         apart = [it for at, it in enumerate(written) if at == 0 or it != written[at - 1]]

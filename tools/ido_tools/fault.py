@@ -4,6 +4,8 @@ import argparse
 import os
 import sys
 
+from ido_tools.words import SCHEMES
+
 
 class BadInput(Exception):
     """What a tool was given can't be used; the text says why."""
@@ -15,6 +17,12 @@ class Parser(argparse.ArgumentParser):
     def __init__(self, description, **more):
         super().__init__(description=description, formatter_class=argparse.RawDescriptionHelpFormatter, **more)
         self.add_argument("--program", metavar="PATH", help="the program ido (else crates/ido/out/ido where it stands, else ./ido)")
+
+    def add_scheme(self):
+        """Takes the scheme by which sources are compiled."""
+        names = [it for it, _ in SCHEMES]
+        about = f"compile for this scheme of logging: {' or '.join(names)} ({names[0]})"
+        self.add_argument("--scheme", metavar="SCHEME", choices=names, default=names[0], help=about)
 
 
 def read_bytes(path):

@@ -1,31 +1,23 @@
-"""Object files of versions 1 and 2, image files of versions 1 to 3, and what the words of an image are."""
+"""Object files of versions 1 to 3, image files of versions 1 to 4, and what the words of an image are."""
 
 import collections
 import struct
 
 from ido_tools.fault import BadInput
 from ido_tools.limits import LINE_BYTES, LOG_LINES, VARIABLE_LINES
+from ido_tools.logs import IMAGE_LOGS, MOST_LISTED, OBJECT_LOGS, VERSION_OF_LIVES, WORD_BYTES, lines_of
 from ido_tools.source import VARIABLES_FROM
 from ido_tools.texts import NULL
 
 OBJECT_HEAD = b"IDO-OBJ\n"
 IMAGE_HEAD = b"IDO-IMG\n"
-OBJECT_VERSIONS = (1, 2)
-# How many bytes an image of each version has of a thread's log.
-LOG_BYTES = {1: 1024, 2: 2048, 3: 2048}
-# Where the banks stand in a log of so many bytes. The first word of a bank is a mask of locks in the first kind, and in the other how many there are in a list.
-BANKS = {1024: (64, 320), 2048: (64, 1088)}
-LIST_SLOT, MOST_LISTED = 32, 16
-BANK_SLOTS = LIST_SLOT + MOST_LISTED
-SLOT_BYTES = 8
-
 # Of a variable of more elements only so many are told.
 MOST_NUMBERS = 64
 
-# The registers of the store that a boundary before it keeps.
-PENDING_ADDRESS, PENDING_VALUE = 28, 29
+# What a thread's log holds, and how it logs.
+Kept = collections.namedtuple("Kept", "log content")
 
-Object = collections.namedtuple("Object", "mutexes initial code")
+Object = collections.namedtuple("Object", "log mutexes initial code")
 
 
 class Image(collections.namedtuple("Image", "version source variables logs lives")):
@@ -72,7 +64,7 @@ class Fields:
 def parse_object(content):
     """The object that these bytes are."""
     fields = Fields(content, "object file")
-    fields.head(OBJECT_HEAD, OBJECT_VERSIONS)
+    version = fields.head(OBJECT_HEAD, OBJECT_LOGS)
     threads, mutexes, count = fields.number(), fields.number(), fields.number()
     initial = fields.take(count)
     code = []
@@ -80,24 +72,25 @@ def parse_object(content):
         words = fields.number()
         code.append(list(struct.unpack(f"<{words}I", fields.take(4 * words))))
     fields.done()
-    return Object(mutexes, initial, code)
+    return Object(OBJECT_LOGS[version], mutexes, initial, code)
 
 
 def image_source(content):
-    """The source in an image."""
+    """The log of an image's threads, and its source."""
     fields = Fields(content, "image file")
-    fields.head(IMAGE_HEAD, LOG_BYTES)
-    return fields.take(fields.number())
+    version = fields.head(IMAGE_HEAD, IMAGE_LOGS)
+    return IMAGE_LOGS[version], fields.take(fields.number())
 
 
 def parse_image(content, threads):
     """The image that these bytes are, of a source with so many threads."""
     fields = Fields(content, "image file")
-    version = fields.head(IMAGE_HEAD, LOG_BYTES)
+    version = fields.head(IMAGE_HEAD, IMAGE_LOGS)
     source = fields.take(fields.number())
     variables = fields.take(fields.number())
-    logs = [fields.take(LOG_BYTES[version]) for _ in range(threads)]
-    count = fields.number() if version == 3 else 1
+    log = IMAGE_LOGS[version]
+    logs = [Kept(log, fields.take(log.bytes)) for _ in range(threads)]
+    count = fields.number() if version >= VERSION_OF_LIVES else 1
     lives = [[(fields.number(), fields.number()) for _ in range(fields.number())] for _ in range(count)]
     fields.done()
     return Image(version, source, variables, logs, lives)
@@ -163,20 +156,30 @@ def kept_text(typed, number):
     return str(low - (low >> bits - 1 << bits) if typed.kind.signed else low)
 
 
-def log_word(log, offset):
-    """A word of a log."""
-    return struct.unpack_from("<Q", log, offset)[0]
+def log_word(kept, offset):
+    """A word of a thread's log."""
+    return struct.unpack_from("<Q", kept.content, offset)[0]
 
 
-def point_of(log):
+def point_of(kept):
     """The address where a log's thread is resumed (0: it isn't) and the number of the bank."""
-    point = log_word(log, 0)
+    point = log_word(kept, 0)
     return point & ~1, point & 1
 
 
-def slot_of(log, bank, slot):
+def slot_of(kept, bank, slot):
     """A slot of a bank."""
-    return log_word(log, BANKS[len(log)][bank] + SLOT_BYTES * slot)
+    return log_word(kept, kept.log.banks[bank] + WORD_BYTES * slot)
+
+
+def pending_of(kept, bank):
+    """The address and the value of the write that a bank tells."""
+    return tuple(slot_of(kept, bank, it) for it in kept.log.pending)
+
+
+def frame_word(kept, number):
+    """A word of the frame."""
+    return log_word(kept, kept.log.frame + WORD_BYTES * number)
 
 
 def locks_of(mask):
@@ -184,12 +187,12 @@ def locks_of(mask):
     return [bit for bit in range(64) if mask >> bit & 1]
 
 
-def held_in(log, bank):
+def held_in(kept, bank):
     """The numbers of the locks that a bank tells, which a list has in its own order."""
-    first = slot_of(log, bank, 0)
-    if len(log) == LOG_BYTES[1]:
+    first, listed = slot_of(kept, bank, 0), kept.log.listed
+    if listed is None:
         return locks_of(first)
-    return [slot_of(log, bank, LIST_SLOT + it) for it in range(min(first, MOST_LISTED))]
+    return [slot_of(kept, bank, listed + it) for it in range(min(first, MOST_LISTED))]
 
 
 def mutexes_of(source, locks):
@@ -203,17 +206,15 @@ def variable_lines(source):
     return list(range(-(-end // LINE_BYTES)))
 
 
-def bank_lines(thread):
-    """The lines of memory that the banks of a thread's log stand in."""
-    lines = BANK_SLOTS * SLOT_BYTES // LINE_BYTES
-    starts = [point_line(thread) + start // LINE_BYTES for start in BANKS[LOG_BYTES[3]]]
-    return [start + it for start in starts for it in range(lines)]
+def record_lines(thread, log):
+    """The lines of memory that the banks and the frame of a thread's log stand in."""
+    return [point_line(thread) + it for it in lines_of(log)]
 
 
-def lines_in_use(source):
-    """The lines of memory that are used: of variables, of points, and of banks, each kind by itself."""
+def lines_in_use(source, log):
+    """The lines of memory that are used: of variables, of points, and of what else logs have, each kind by itself."""
     threads = range(len(source.threads))
-    return [variable_lines(source), [point_line(it) for it in threads], [line for it in threads for line in bank_lines(it)]]
+    return [variable_lines(source), [point_line(it) for it in threads], [line for it in threads for line in record_lines(it, log)]]
 
 
 def point_line(thread):

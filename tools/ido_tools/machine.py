@@ -7,16 +7,13 @@ import collections
 
 from ido_tools.code import memory_operand
 from ido_tools.fault import BadInput
-from ido_tools.files import BANKS, LIST_SLOT, LOG_BYTES, MOST_LISTED
 from ido_tools.limits import LINE_BYTES, LOG_LINES, MOST_EVENTS, MOST_STEPS_TO, VARIABLE_LINES
+from ido_tools.logs import MOST_LISTED, PENDING_REGISTERS, REGISTERS, WORD_BYTES
 from ido_tools.source import VARIABLES_FROM
 
 LOGS_FROM = 0x2000_0000
-WORD_BYTES = 8
 LINE_WORDS = LINE_BYTES // WORD_BYTES
 MOST_QUEUED = 16
-BANK_STARTS = BANKS[LOG_BYTES[3]]
-BANK_OFFSET = BANK_STARTS[1] - BANK_STARTS[0]
 ALL_BITS = (1 << 64) - 1
 
 # What a step is replied, as docs/formats.md has it, and with what it was done: an instruction's position among the words of its thread.
@@ -114,7 +111,7 @@ class Hart:
     """What a hart has: registers, where it is, its phase, and the lines that it has cleaned and not written back."""
 
     def __init__(self, pc, phase):
-        self.registers = [0] * 32
+        self.registers = [0] * REGISTERS
         self.pc = pc
         self.phase = phase
         self.queue = collections.deque()
@@ -190,6 +187,7 @@ class Machine:
 
     def __init__(self, made, words):
         self.words = words
+        self.logs = made.log
         self.starts = [it[0].address for it in words]
         self.memory = Memory(made.initial, len(words))
         self.holders = [None] * made.mutexes
@@ -391,9 +389,7 @@ class Machine:
                 return BARRIER
             hart.phase = "resume"
         else:
-            bank = self.point(number) & 1
-            hart.registers = [self.slot(number, bank, it) for it in range(32)]
-            hart.registers[0], hart.registers[3] = 0, BANK_OFFSET * bank
+            hart.registers = self.resumed(number, self.point(number) & 1)
             hart.pc, hart.phase = self.point(number) & ~1, "run"
         return MOVED
 
@@ -409,13 +405,25 @@ class Machine:
 
     def slot(self, number, bank, slot):
         """A slot of a bank, as it is durable."""
-        return self.memory.durable[self.log(number) + BANK_STARTS[bank] // WORD_BYTES + slot]
+        return self.memory.durable[self.log(number) + self.logs.banks[bank] // WORD_BYTES + slot]
+
+    def resumed(self, number, bank):
+        """The registers that a thread is resumed with: where locals stand in the frame, these are those of the write that comes first."""
+        registers = [0] * REGISTERS
+        if self.logs.frame is None:
+            registers = [self.slot(number, bank, it) for it in range(REGISTERS)]
+            registers[0] = 0
+        else:
+            for register_number, it in zip(PENDING_REGISTERS, self.logs.pending):
+                registers[register_number] = self.slot(number, bank, it)
+        registers[3] = bank * (self.logs.banks[1] - self.logs.banks[0])
+        return registers
 
     def recorded(self, number):
         """The locks that a thread's durable record has."""
         bank = self.point(number) & 1
         count = min(self.slot(number, bank, 0), MOST_LISTED) if self.point(number) else 0
-        return [self.slot(number, bank, LIST_SLOT + it) for it in range(count)]
+        return [self.slot(number, bank, self.logs.listed + it) for it in range(count)]
 
     # ---- Other events
 
@@ -438,7 +446,7 @@ class Machine:
         """Another life begins."""
         self.recovering = False
         for hart, start in zip(self.harts, self.starts):
-            hart.registers, hart.pc, hart.phase = [0] * 32, start, "run"
+            hart.registers, hart.pc, hart.phase = [0] * REGISTERS, start, "run"
 
     def is_idle(self, number):
         """Whether the next step of a hart would wait, or find that it has stopped."""

@@ -2,7 +2,7 @@
 
 import re
 
-from ido_tools.words import COMMANDS, OPTIONS, SCRIPT_LINES, SCRIPTED, STATUSES
+from ido_tools.words import COMMANDS, OPTIONS, SCHEMES, SCRIPT_LINES, SCRIPTED, STATUSES
 
 HEAD = r"""
 .TH IDO 1
@@ -27,8 +27,13 @@ crash comes, 0 before the first. In `live` it is one of events since the last cr
 `%%` is a line of its own. What stands before the first one is the source; where there is none, all is the source.
 """
 
+SCHEME = """
+SCHEME says how the compiled code logs. The option stands once at most, anywhere before a `--`, also as `--scheme=justdo`. An object file and an image file
+tell by their version which it is.
+"""
+
 OWN_WORDS = """
-They stand before the command, and are those of the script `./ido`. The program itself takes none but those behind `regions` and `live`.
+They stand before the command, and are those of the script `./ido`. The program itself takes none but those that stand behind a command above.
 """
 
 SWEEP = """
@@ -97,7 +102,10 @@ def manual(made_by):
     lines = [f'.\\" {made_by}', *lines_of(HEAD), *paragraph(DESCRIPTION), ".SH COMMANDS"]
     for name, words, given, answer in COMMANDS:
         lines += entry(name, words, f"From {given}: {answer}.")
-    lines += [".PP", *paragraph(WORDS), ".SH OPTIONS", *paragraph(OWN_WORDS)]
+    lines += [".PP", *paragraph(WORDS), ".SH SCHEMES", *paragraph(SCHEME)]
+    for name, meaning in SCHEMES:
+        lines += entry(name, "", meaning[0].upper() + meaning[1:] + ".")
+    lines += [".SH OPTIONS", *paragraph(OWN_WORDS)]
     for name, meaning in OPTIONS:
         lines += entry(name, "", meaning)
     commands = [f"`{it}`" for it in SCRIPTED]

@@ -8,6 +8,8 @@ import subprocess
 import sys
 
 from ido_tools.fault import BadInput
+from ido_tools.logs import SCHEME_LOGS
+from ido_tools.words import SCHEMED, SCHEMES
 
 TOP = os.path.dirname(os.path.dirname(os.path.dirname(os.path.realpath(__file__))))
 PROVED = os.path.join(TOP, "crates", "ido", "out", "ido")
@@ -43,18 +45,20 @@ def workers(most):
 
 
 class Program:
-    """The program, with the short answers that it has given."""
+    """The program, with the short answers that it has given. It compiles sources for one scheme of logging."""
 
-    def __init__(self, path=None):
+    def __init__(self, path=None, scheme=SCHEMES[0][0]):
         self.path = find_program(path)
+        self.scheme, self.log = scheme, SCHEME_LOGS[scheme]
         self.answers = {}
         self.calls = 0
         self.pool = concurrent.futures.ThreadPoolExecutor(max_workers=workers(8))
 
     def start(self, words, content):
         """One call of the program, whatever was answered before."""
+        told = ["--scheme", self.scheme] if self.scheme != SCHEMES[0][0] and words[0] in SCHEMED else []
         try:
-            done = subprocess.run([self.path, *words], input=content, stdout=subprocess.PIPE, stderr=subprocess.PIPE, check=False)
+            done = subprocess.run([self.path, *words, *told], input=content, stdout=subprocess.PIPE, stderr=subprocess.PIPE, check=False)
         except OSError as error:
             raise BadInput(f"{self.path} does not start: {error.strerror}") from error
         if done.returncode < 0 or done.returncode == NOT_STARTED:

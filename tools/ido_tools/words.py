@@ -33,23 +33,31 @@ SCHEDULE = "schedule"
 WITH_SCRIPT = f"a source, a line `{MARK}`, a script"
 WITH_SCHEDULE = f"a source, a line `{MARK}`, a schedule"
 
+# The option of the commands that compile a source to write or run it, and the words that stand for SCHEME: how the compiled code logs.
+SCHEME = "[--scheme SCHEME]"
+SCHEMES = (
+    ("ido", "a record for each region of a section; this one where none is told"),
+    ("justdo", "a record for each write of a section"),
+)
+
 # Each command with the words behind it, its input and its output.
 COMMANDS = (
-    ("compile", "", "a source", "its object file"),
+    ("compile", SCHEME, "a source", "its object file"),
     ("list", "", "an object file", "the listing of its code"),
     ("regions", "[--least]", "a source", "its nodes, and the boundaries chosen among them; with `--least` how few there are in straight code too"),
     ("order", "", "a source", "`ordered`, or the first lock that is taken out of order"),
-    ("play", "[--fences]", WITH_SCRIPT, "the report of a run of the compiled source; with `--fences` how many fences each hart has finished too"),
-    ("image", "", WITH_SCRIPT, "the image file that a crash after that run would leave"),
+    ("play", f"[--fences] {SCHEME}", WITH_SCRIPT, "the report of a run of the compiled source; with `--fences` how many fences each hart has finished too"),
+    ("image", SCHEME, WITH_SCRIPT, "the image file that a crash after that run would leave"),
     ("recover", "TURNS", "an image file", "the report of the run that goes on from it, on threads"),
     ("upgrade", "TURNS", "an image file of an older version", "the image file of the newest that is left of that run, where it is settled"),
     ("source", "", WITH_SCHEDULE, "the report of the source's own run"),
-    ("seeded", "SEED TURNS [CRASH]... [--journal]", "a source", "the report of a run of it that is drawn from the seed, or with `--journal` that run, as an input of `play`"),
-    ("live", "TURNS [CRASH]... [--evict SEED] [--journal]", "a source", "the report of a run of it on threads, or with `--journal` that run, as an input of `play`"),
+    ("seeded", f"SEED TURNS [CRASH]... [--journal] {SCHEME}", "a source", "the report of a run of it that is drawn from the seed, or with `--journal` that run, as an input of `play`"),
+    ("live", f"TURNS [CRASH]... [--evict SEED] [--journal] {SCHEME}", "a source", "the report of a run of it on threads, or with `--journal` that run, as an input of `play`"),
     ("make", "N SEED", "no input", "a source of four threads, which make N rounds each"),
-    ("load", "N SEED", "no input", "that source is run on threads to its end, and what it left summed up"),
-    ("sweep", "", WITH_SCRIPT, "the reports after a crash at each point of that run, equal ones told once"),
+    ("load", f"N SEED {SCHEME}", "no input", "that source is run on threads to its end, and what it left summed up"),
+    ("sweep", SCHEME, WITH_SCRIPT, "the reports after a crash at each point of that run, equal ones told once"),
 )
+SCHEMED = [name for name, behind, _, _ in COMMANDS if SCHEME in behind]
 # The commands that take a script, a schedule, and either of them: their inputs split.
 SCRIPTED = [name for name, _, given, _ in COMMANDS if given == WITH_SCRIPT]
 SCHEDULED = [name for name, _, given, _ in COMMANDS if given == WITH_SCHEDULE]

@@ -1,12 +1,15 @@
 -- The first part of a boundary, up to its first fence: the bank is stored, and its lines in use are cleaned.
 use Rattle.std.proofs.Common.{◌≡◌, ◌≢◌, ℕ, zero, suc, ◌+◌, ◌-◌, ◌*◌, ◌/◌, ◌^◌, ◌<◌, ◌≤◌, List, [], ◌∷◌, ◌++◌, length, map}
 use Rattle.std.proofs.Common.{refl, ap, sym, ◌∙◌, arith, Bool, true, false, ◌==◌, lit<, if◌then◌else◌}
-use Rattle.std.specs.Prelude.{slice_set, filter}
+use Rattle.std.specs.Prelude.{slice_set, filter, Option, None, Some}
 use Rattle.std.specs.List.{list_all, list_any}
 use Rattle.std.proofs.lemmas.Bool.{and_parts}
 use Rattle.std.proofs.lemmas.Bool.Decides.{nat_tests}
 use Rattle.ido_base.specs.declared.limits.TheConstants.{MOST_THREADS}
-use Rattle.log_schemes.specs.Layout.{log_of, bank_bytes, slot_at}
+use Rattle.log_schemes.specs.Layout.{bank_bytes, frame_at, log_of, slot_at}
+use Rattle.log_schemes.specs.declared.addresses.TheConstants.{FRAME}
+use Rattle.log_schemes.specs.declared.locals.Locals.{Locals}
+use Rattle.log_schemes.specs.declared.locals.Locals.TheVariants.{Registers, Frame}
 use Rattle.log_schemes.specs.declared.log.Log.{Log}
 use Rattle.rv64_isa.specs.declared.instr.Instr.{Instr}
 use Rattle.rv64_isa.specs.declared.instr.Instr.TheVariants.{Store, OpImmediate, Op, CboClean}
@@ -17,15 +20,16 @@ use Rattle.rv64_isa.specs.Rows.{Effect, Continues, Stores, Cleans, row, read, ne
 use Rattle.rv64_isa.specs.Arithmetic.{sign_extended, result_of}
 use Rattle.memory_layout.specs.Roles.{is_temporary, is_kept}
 use Rattle.operator_code.specs.StraightLineCode.{IsConstant}
-use Rattle.boundary_code.specs.Boundaries.{lines_in_use, IsOnSide, IsUnderWay}
+use Rattle.boundary_code.specs.Boundaries.{frame_lines, frame_lines_at, lines_in_use, IsOnSide, IsUnderWay}
 use Rattle.log_schemes.specs.declared.keeping.Keeping.TheVariants.{Listed}
-use Rattle.log_schemes.specs.Schemes.{bank_lines, bank_slots, keeping_of, lines_in_bank, lock_slot, numbers_from, register_slot, size_of}
+use Rattle.log_schemes.specs.Schemes.{bank_lines, bank_slots, keeping_of, lines_in_bank, locals_of, lock_slot, may_keep, may_keep_at, numbers_from, register_slot}
+use Rattle.log_schemes.specs.Schemes.{size_of, told, told_at}
 use Rattle.log_schemes.proofs.Public.{scheme, size_holds}
-use Rattle.boundary_code.specs.Boundaries.{clean_lines, keep_slots}
+use Rattle.boundary_code.specs.Boundaries.{clean_frame, clean_lines, keep_slots, keep_told}
 use Rattle.boundary_code.specs.links.InstructionLists.{opening_list}
 use Rattle.operator_code.proofs.Public.{RunsFrom, stop, go, store, clean, along, constant_runs, read_same, read_other, length-changed, small_immediate}
 use Rattle.operator_code.proofs.Public.{add_small, displaced_small}
-use Rattle.boundary_code.proofs.Registers.{ready, ready_still, flip, bank_immediate, base_small}
+use Rattle.boundary_code.proofs.Registers.{ready, ready_still, flip, bank_immediate, base_small, log_small}
 
 -- ---- Slots
 
@@ -33,23 +37,34 @@ abbrev AreKept : Log → List ℕ → Type 0
 AreKept log [] = Unit {0}
 AreKept log (r ∷ rs) = ((register_slot log r < 48) × (is_temporary r ≡ false) × (r ≢ 3)) × AreKept log rs
 
+no_temporary : (r : ℕ) → is_kept r ≡ true → is_temporary r ≡ false
+no_temporary r h = grind (arith, nat_tests)
+
 -- a bank has 48 slots at most
 few_slots : (log : Log) (slot : ℕ) → slot < bank_slots log → slot < 48
 few_slots log slot below = let few = (size_holds (size_of log)).few_in_bank in omega (arith, below, few)
 
-kept_register : (log : Log) (r : ℕ) → is_kept r ≡ true → (register_slot log r < 48) × (is_temporary r ≡ false) × (r ≢ 3)
+may_be : (locals : Locals) (r : ℕ) → may_keep_at locals r ≡ true → is_kept r ≡ true
+may_be Registers r h = h
+may_be Frame r h = grind (arith, nat_tests)
+
+pub may_be_kept : (log : Log) (r : ℕ) → may_keep log r ≡ true → is_kept r ≡ true
+may_be_kept log r h = may_be (locals_of log) r h
+
+kept_register : (log : Log) (r : ℕ) → may_keep log r ≡ true → (register_slot log r < 48) × (is_temporary r ≡ false) × (r ≢ 3)
 kept_register log r h =
     let apart = (scheme log).apart in
-    let own = apart.register r (apart.kept r h) in (
+    let own = apart.register r (apart.kept r h) in
+    let kept = may_be_kept log r h in (
       few_slots log (register_slot log r) own.exists,
-      grind (arith, nat_tests),
-      λ e. let z : is_kept 3 ≡ true = ap (λ (n : ℕ). is_kept n) (sym e) ∙ h in cc z,
+      no_temporary r kept,
+      λ e. let z : is_kept 3 ≡ true = ap (λ (n : ℕ). is_kept n) (sym e) ∙ kept in cc z,
     )
 
-pub kept_registers : (log : Log) (live : List ℕ) → list_all is_kept live ≡ true → AreKept log live
+pub kept_registers : (log : Log) (live : List ℕ) → list_all (may_keep log) live ≡ true → AreKept log live
 kept_registers log [] h = tt
 kept_registers log (r ∷ rs) h =
-    let parts = and_parts (is_kept r) (list_all is_kept rs) h in (kept_register log r parts.0, kept_registers log rs parts.1)
+    let parts = and_parts (may_keep log r) (list_all (may_keep log) rs) h in (kept_register log r parts.0, kept_registers log rs parts.1)
 
 -- the slots of listed locks
 pub lock_slots_few : (log : Log) (index : ℕ) → keeping_of log ≡ Listed → index < 16 → lock_slot log index < 48
@@ -161,6 +176,93 @@ number_stored log thread bank slot x y number pc t b s under is =
     (slot_row log thread bank x y 5 slot (64 + 8 * slot) pc (slot_address log thread bank slot t b s) under
     ∙ ap (λ (n : ℕ). Stores (slot_at log thread bank slot) 8 n) is)
     (stop y (pc + 4))
+
+-- ---- What is told of a write
+
+abbrev pub AreTold : List (ℕ × ℕ) → Type 0
+AreTold [] = Unit {0}
+AreTold (one ∷ pairs) = ((one.0 < 48) × (one.1 < 2048)) × AreTold pairs
+
+told_small : (locals : Locals) (written : Option ℕ) → ((bytes : ℕ) → written ≡ Some bytes → bytes ≤ 8) → AreTold (told_at locals written)
+told_small Registers written small = tt
+told_small Frame None small = ((lit< tt, lit< tt), ((lit< tt, lit< tt), ((lit< tt, lit< tt), tt)))
+told_small Frame (Some bytes) small = let few = small bytes refl in ((lit< tt, omega (arith, few)), tt)
+
+pub are_told : (log : Log) (written : Option ℕ) → ((bytes : ℕ) → written ≡ Some bytes → bytes ≤ 8) → AreTold (told log written)
+are_told log written small = told_small (locals_of log) written small
+
+small_row : (y : List ℕ) (value pc : ℕ) → read y 0 ≡ 0 → value < 2048 → row (OpImmediate Addi 7 0 value) y pc ≡ Continues (slice_set y 7 value) (next pc)
+unfolding row
+small_row y value pc zeroth small =
+    ap (λ (n : ℕ). Continues (slice_set y 7 (result_of Add n (sign_extended 12 64 value))) (next pc)) zeroth
+    ∙ ap (λ (n : ℕ). Continues (slice_set y 7 (result_of Add 0 n)) (next pc)) (small_immediate value (omega (arith, small)))
+    ∙ ap (λ (n : ℕ). Continues (slice_set y 7 n) (next pc)) (add_small 0 value (omega (arith, small)) ∙ (let e : 0 + value ≡ value = omega arith in e))
+
+pub told_run : (log : Log) (thread bank : ℕ) (x y : List ℕ) (pairs : List (ℕ × ℕ)) (pc : ℕ) → thread < MOST_THREADS → bank < 2 → AreTold pairs →
+    IsUnderWay log thread bank x y →
+    Written log thread bank x y (keep_told pairs) pc (map (λ (one : ℕ × ℕ). Stores (slot_at log thread bank one.0) 8 one.1) pairs)
+told_run log thread bank x y [] pc t b few h = record { left = y; runs = stop y pc; ready = h }
+told_run log thread bank x y (one ∷ pairs) pc t b few h =
+    let value : ℕ = one.1 in
+    let y' : List ℕ = slice_set y 7 value in
+    let under = ready_still log thread bank x y value h in
+    let more = told_run log thread bank x y' pairs (pc + 4 + 4) t b few.1 under in
+    let rest : List Effect = map (λ (other : ℕ × ℕ). Stores (slot_at log thread bank other.0) 8 other.1) pairs in
+    let stores : row (Store Sd 7 30 (64 + 8 * one.0)) y' (pc + 4) ≡ Stores (slot_at log thread bank one.0) 8 value =
+    slot_row log thread bank x y' 7 one.0 (64 + 8 * one.0) (pc + 4) (slot_address log thread bank one.0 t b few.0.0) under
+    ∙ ap (λ (n : ℕ). Stores (slot_at log thread bank one.0) 8 n) (read_same y 7 value h.count (lit< tt)) in
+    record {
+      left = more.left;
+      runs = go (OpImmediate Addi 7 0 value) (Store Sd 7 30 (64 + 8 * one.0) ∷ keep_told pairs) y y' pc
+          (Stores (slot_at log thread bank one.0) 8 value ∷ rest) more.left (small_row y value pc h.zero_is few.0.1)
+          (store (Store Sd 7 30 (64 + 8 * one.0)) (keep_told pairs) y' (pc + 4) (slot_at log thread bank one.0) 8 value rest more.left stores more.runs);
+      ready = more.ready;
+    }
+
+-- ---- Lines of the frame
+
+frame_address : (log : Log) (thread line : ℕ) → thread < MOST_THREADS → line < 6 →
+    result_of Add (log_of log thread) (sign_extended 12 64 (FRAME + 64 * line)) ≡ frame_at log thread (8 * line)
+frame_address log thread line t l =
+    ap (λ (n : ℕ). result_of Add (log_of log thread) n) (small_immediate (FRAME + 64 * line) (omega (arith, l))) ∙
+    add_small (log_of log thread) (FRAME + 64 * line) (let low = log_small log thread t in omega (arith, l, low)) ∙
+    sums (log_of log thread) line
+  where
+    sums : (a n : ℕ) → a + (FRAME + 64 * n) ≡ a + FRAME + 8 * (8 * n)
+    sums a n = omega arith
+
+frame_row : (log : Log) (thread bank : ℕ) (x y : List ℕ) (line pc : ℕ) → thread < MOST_THREADS → line < 6 → IsUnderWay log thread bank x y →
+    row (OpImmediate Addi 7 31 (FRAME + 64 * line)) y pc ≡ Continues (slice_set y 7 (frame_at log thread (8 * line))) (next pc)
+unfolding row
+frame_row log thread bank x y line pc t l h =
+    ap (λ (n : ℕ). Continues (slice_set y 7 (result_of Add n (sign_extended 12 64 (FRAME + 64 * line)))) (next pc)) h.logged ∙
+    ap (λ (n : ℕ). Continues (slice_set y 7 n) (next pc)) (frame_address log thread line t l)
+
+pub frame_run : (log : Log) (thread bank : ℕ) (x y : List ℕ) (lines : List ℕ) (pc : ℕ) → thread < MOST_THREADS → AreLines lines →
+    IsUnderWay log thread bank x y →
+    Written log thread bank x y (clean_frame lines) pc (map (λ line. Cleans (frame_at log thread (8 * line))) lines)
+frame_run log thread bank x y [] pc t few h = record { left = y; runs = stop y pc; ready = h }
+frame_run log thread bank x y (line ∷ lines) pc t few h =
+    let address : ℕ = frame_at log thread (8 * line) in
+    let y' : List ℕ = slice_set y 7 address in
+    let more = frame_run log thread bank x y' lines (pc + 4 + 4) t few.1 (ready_still log thread bank x y address h) in
+    let rest : List Effect = map (λ l. Cleans (frame_at log thread (8 * l))) lines in
+    record {
+      left = more.left;
+      runs = go (OpImmediate Addi 7 31 (FRAME + 64 * line)) (CboClean 7 ∷ clean_frame lines) y y' pc (Cleans address ∷ rest) more.left
+          (frame_row log thread bank x y line pc t few.0 h)
+          (clean (CboClean 7) (clean_frame lines) y' (pc + 4) address rest more.left
+          (clean_row y' 7 address (pc + 4) (read_same y 7 address h.count (lit< tt))) more.runs);
+      ready = more.ready;
+    }
+
+frame_few : (locals : Locals) (opens : Bool) → AreLines (frame_lines_at locals opens)
+frame_few Registers opens = tt
+frame_few Frame true = (lit< tt, (lit< tt, (lit< tt, tt)))
+frame_few Frame false = tt
+
+pub are_frame_lines : (log : Log) (opens : Bool) → AreLines (frame_lines log opens)
+are_frame_lines log opens = frame_few (locals_of log) opens
 
 -- ---- Slots with values
 

@@ -1,6 +1,7 @@
 -- Code that is made as a boundary wants it is its code.
 use Rattle.std.proofs.Common.{◌≡◌, ℕ, ◌+◌, ◌<◌, ◌≤◌, List, [], ◌∷◌, ◌++◌, length, map, refl, ap, sym, ◌∙◌, Bool, true, false, if◌then◌else◌}
-use Rattle.std.specs.Prelude.{ℤ, pos, negsuc, ◌≤ℤ◌}
+use Rattle.std.specs.Prelude.{ℤ, pos, negsuc, ◌≤ℤ◌, Option, Some}
+use Rattle.std.proofs.lemmas.List.{map-append}
 use Rattle.std.specs.List.{list_all}
 use Rattle.std.proofs.lemmas.Bool.{true≢false}
 use Rattle.ido_base.specs.declared.limits.TheConstants.{MOST_THREADS}
@@ -8,24 +9,23 @@ use Rattle.log_schemes.specs.Layout.{log_of}
 use Rattle.log_schemes.specs.declared.log.Log.{Log}
 use Rattle.log_schemes.specs.declared.keeping.Keeping.{Keeping}
 use Rattle.log_schemes.specs.declared.keeping.Keeping.TheVariants.{Masked, Listed}
-use Rattle.log_schemes.specs.Schemes.{keeping_of, kept_as, listed_from, lock_slot, numbers_from, register_slot}
+use Rattle.log_schemes.specs.Schemes.{keeping_of, kept_as, kept_locks, listed_from, lock_slot, may_keep, numbers_from, register_slot, told}
 use Rattle.rv64_isa.specs.declared.instr.Instr.{Instr}
 use Rattle.rv64_isa.specs.Signed.{twos_complement}
-use Rattle.memory_layout.specs.Roles.{is_kept}
 use Rattle.operator_code.specs.StraightLineCode.{IsConstant}
 use Rattle.boundary_code.specs.Boundaries.{Boundary, IsBoundaryCode, boundary_list, first_kept, is_empty, keep_locks}
 use Rattle.boundary_code.specs.Boundaries.{listed_locks, slots_kept}
-use Rattle.boundary_code.specs.links.InstructionLists.{bank_list, last_list}
+use Rattle.boundary_code.specs.links.InstructionLists.{Beside, bank_list, beside_of, last_list}
 
 -- the same list by other names of its parts
-renamed : (log : Log) (a a' f f' o o' : List Instr) (s s' live : List ℕ) (r r' : ℤ) → a' ≡ a → f' ≡ f → o' ≡ o → s' ≡ s → r' ≡ r →
-    bank_list log a' f' o' s' live (twos_complement 32 r') ≡ bank_list log a f o s live (twos_complement 32 r)
-renamed log a a' f f' o o' s s' live r r' ea ef eo es er =
-    ap (λ (is : List Instr). bank_list log is f' o' s' live (twos_complement 32 r')) ea
-    ∙ ap (λ (is : List Instr). bank_list log a is o' s' live (twos_complement 32 r')) ef
-    ∙ ap (λ (is : List Instr). bank_list log a f is s' live (twos_complement 32 r')) eo
-    ∙ ap (λ (slots : List ℕ). bank_list log a f o slots live (twos_complement 32 r')) es
-    ∙ ap (λ (z : ℤ). bank_list log a f o s live (twos_complement 32 z)) er
+renamed : (log : Log) (a a' f f' o o' : List Instr) (s s' : Beside) (r r' : ℤ) → a' ≡ a → f' ≡ f → o' ≡ o → s' ≡ s → r' ≡ r →
+    bank_list log a' f' o' s' (twos_complement 32 r') ≡ bank_list log a f o s (twos_complement 32 r)
+renamed log a a' f f' o o' s s' r r' ea ef eo es er =
+    ap (λ (is : List Instr). bank_list log is f' o' s' (twos_complement 32 r')) ea
+    ∙ ap (λ (is : List Instr). bank_list log a is o' s' (twos_complement 32 r')) ef
+    ∙ ap (λ (is : List Instr). bank_list log a f is s' (twos_complement 32 r')) eo
+    ∙ ap (λ (beside : Beside). bank_list log a f o beside (twos_complement 32 r')) es
+    ∙ ap (λ (z : ℤ). bank_list log a f o s (twos_complement 32 z)) er
 
 -- ---- The slots of locks
 
@@ -39,12 +39,17 @@ slots_listed : (log : Log) (index : ℕ) (locks : List ℕ) →
 slots_listed log index [] = refl
 slots_listed log index (lock ∷ locks) = ap (λ (ns : List ℕ). lock_slot log index ∷ ns) (slots_listed log (index + 1) locks)
 
-pub slots_are : (log : Log) (locks live : List ℕ) (count : ℕ) → count ≡ length (listed_locks (keeping_of log) locks) →
-    (0 ∷ map (lock_slot log) (numbers_from 0 count)) ++ map (register_slot log) live ≡ slots_kept log locks live
-slots_are log locks live count many =
-    ap (λ (n : ℕ). (0 ∷ map (lock_slot log) (numbers_from 0 n)) ++ map (register_slot log) live) many
-    ∙ ap (λ (ns : List ℕ). (0 ∷ ns) ++ map (register_slot log) live) (sym (slots_listed log 0 (listed_locks (keeping_of log) locks)))
-    ∙ ap (λ (ks : List (ℕ × ℕ)). map (λ (one : ℕ × ℕ). one.0) ks ++ map (register_slot log) live) (sym (kept_parts (keeping_of log) log locks))
+pub slots_are : (log : Log) (locks : List ℕ) (written : Option ℕ) (live : List ℕ) (count : ℕ) → count ≡ length (listed_locks (keeping_of log) locks) →
+    ((0 ∷ map (lock_slot log) (numbers_from 0 count)) ++ map (λ (one : ℕ × ℕ). one.0) (told log written)) ++ map (register_slot log) live
+    ≡ slots_kept log locks written live
+slots_are log locks written live count many =
+    let telling : List ℕ = map (λ (one : ℕ × ℕ). one.0) (told log written) in
+    ap (λ (n : ℕ). ((0 ∷ map (lock_slot log) (numbers_from 0 n)) ++ telling) ++ map (register_slot log) live) many
+    ∙ ap (λ (ns : List ℕ). ((0 ∷ ns) ++ telling) ++ map (register_slot log) live) (sym (slots_listed log 0 (listed_locks (keeping_of log) locks)))
+    ∙ ap (λ (ks : List (ℕ × ℕ)). (map (λ (one : ℕ × ℕ). one.0) ks ++ telling) ++ map (register_slot log) live)
+    (sym (kept_parts (keeping_of log) log locks))
+    ∙ ap (λ (ns : List ℕ). ns ++ map (register_slot log) live)
+    (sym (map-append (λ (one : ℕ × ℕ). one.0) (kept_locks log locks) (told log written)))
 
 -- ---- Boundaries
 
@@ -54,15 +59,15 @@ pub with_none : (b : Boundary) (address first : List Instr) (codes : List (List 
 with_none b address first codes none =
     let others : List Instr = keep_locks b.log 0 codes in
     ap (λ (z : Bool). if z then last_list address
-    else bank_list b.log address first others (slots_kept b.log b.locks b.live) b.live (twos_complement 32 b.resume)) none
+    else bank_list b.log address first others (beside_of b) (twos_complement 32 b.resume)) none
 
 pub with_some : (b : Boundary) (address first : List Instr) (codes : List (List Instr)) → is_empty b.locks ≡ false →
     boundary_list b address first codes ≡
-    bank_list b.log address first (keep_locks b.log 0 codes) (slots_kept b.log b.locks b.live) b.live (twos_complement 32 b.resume)
+    bank_list b.log address first (keep_locks b.log 0 codes) (beside_of b) (twos_complement 32 b.resume)
 with_some b address first codes some =
     let others : List Instr = keep_locks b.log 0 codes in
     ap (λ (z : Bool). if z then last_list address
-    else bank_list b.log address first others (slots_kept b.log b.locks b.live) b.live (twos_complement 32 b.resume)) some
+    else bank_list b.log address first others (beside_of b) (twos_complement 32 b.resume)) some
 
 -- what is known of one where it is made
 pub record Parts (b : Boundary) (codes : List (List Instr)) (address : List Instr) : Type 0 where
@@ -70,19 +75,20 @@ pub record Parts (b : Boundary) (codes : List (List Instr)) (address : List Inst
   pub many : length codes ≡ length (listed_locks (keeping_of b.log) b.locks)
   pub few : length codes ≤ 16
   pub thread_is : b.thread < MOST_THREADS
-  pub live_are : list_all is_kept b.live ≡ true
+  pub live_are : list_all (may_keep b.log) b.live ≡ true
+  pub bytes : (bytes : ℕ) → b.written ≡ Some bytes → bytes ≤ 8
   pub low : negsuc 262143 ≤ℤ b.resume
   pub high : b.resume ≤ℤ pos 262144
 
-pub bank_made : (b : Boundary) (codes : List (List Instr)) (address first a f o : List Instr) (s : List ℕ) (r : ℤ) (code : List Instr) →
+pub bank_made : (b : Boundary) (codes : List (List Instr)) (address first a f o : List Instr) (s : Beside) (r : ℤ) (code : List Instr) →
     Parts b codes address → is_empty b.locks ≡ false → IsConstant 7 (first_kept (keeping_of b.log) b.locks) first → a ≡ address → f ≡ first →
-    o ≡ keep_locks b.log 0 codes → s ≡ slots_kept b.log b.locks b.live → r ≡ b.resume → code ≡ bank_list b.log a f o s b.live (twos_complement 32 r) →
+    o ≡ keep_locks b.log 0 codes → s ≡ beside_of b → r ≡ b.resume → code ≡ bank_list b.log a f o s (twos_complement 32 r) →
     IsBoundaryCode b codes code
 bank_made b codes address first a f o s r code p some constant ea ef eo es er e = record {
   address = address;
   first = first;
   is = e
-      ∙ renamed b.log address a first f (keep_locks b.log 0 codes) o (slots_kept b.log b.locks b.live) s b.live b.resume r ea ef eo es er
+      ∙ renamed b.log address a first f (keep_locks b.log 0 codes) o (beside_of b) s b.resume r ea ef eo es er
       ∙ sym (with_some b address first codes some);
   is_log = p.is_log;
   is_first = λ _. constant;
@@ -90,6 +96,7 @@ bank_made b codes address first a f o s r code p some constant ea ef eo es er e 
   few = p.few;
   thread_is = p.thread_is;
   live_are = p.live_are;
+  bytes = p.bytes;
   low = p.low;
   high = p.high;
 }
@@ -106,6 +113,7 @@ last_made b codes address a code p none ea e = record {
   few = p.few;
   thread_is = p.thread_is;
   live_are = p.live_are;
+  bytes = p.bytes;
   low = p.low;
   high = p.high;
 }

@@ -1,6 +1,6 @@
 -- What the code of a boundary does.
 use Rattle.std.specs.Prelude.{◌≡◌, ◌≢◌, ℕ, ℤ, ◌+◌, ◌-◌, ◌*◌, ◌/◌, ◌%◌, ◌^◌, ◌<◌, ◌≤◌, List, [], ◌∷◌, ◌++◌, map, filter, length, Bool, true, false, ◌==◌}
-use Rattle.std.specs.Prelude.{if◌then◌else◌, Vec, pos, negsuc, ◌≤ℤ◌}
+use Rattle.std.specs.Prelude.{if◌then◌else◌, Vec, pos, negsuc, ◌≤ℤ◌, Option, Some}
 use Rattle.std.specs.Global.{Global}
 use Rattle.std.specs.List.{list_all, list_any}
 use Rattle.ido_base.specs.declared.limits.TheConstants.{MOST_THREADS}
@@ -9,8 +9,12 @@ use Rattle.log_schemes.specs.declared.log.Log.{Log}
 use Rattle.log_schemes.specs.declared.log.TheConstants.{MOST_LISTED}
 use Rattle.log_schemes.specs.declared.keeping.Keeping.{Keeping}
 use Rattle.log_schemes.specs.declared.keeping.Keeping.TheVariants.{Masked, Listed}
-use Rattle.log_schemes.specs.Schemes.{bank_lines, distance_bits, keeping_of, kept_locks, lines_in_bank, lock_slot, register_slot, size_of}
-use Rattle.log_schemes.specs.Layout.{log_of, point_at, slot_at, bank_bytes}
+use Rattle.log_schemes.specs.declared.addresses.TheConstants.{FRAME, FRAME_LINES}
+use Rattle.log_schemes.specs.declared.locals.Locals.{Locals}
+use Rattle.log_schemes.specs.declared.locals.Locals.TheVariants.{Registers, Frame}
+use Rattle.log_schemes.specs.Schemes.{bank_lines, distance_bits, keeping_of, kept_locks, lines_in_bank, locals_of, lock_slot, may_keep, numbers_from, register_slot}
+use Rattle.log_schemes.specs.Schemes.{size_of, told}
+use Rattle.log_schemes.specs.Layout.{bank_bytes, frame_at, log_of, point_at, slot_at}
 use Rattle.rv64_isa.specs.declared.instr.Instr.{Instr}
 use Rattle.rv64_isa.specs.declared.instr.Instr.TheVariants.{Auipc, Store, OpImmediate, ShiftImmediate, Op, CboClean, Fence}
 use Rattle.rv64_isa.specs.declared.instr.Operation.TheVariants.{Add}
@@ -19,7 +23,7 @@ use Rattle.rv64_isa.specs.declared.instr.ShiftOperation.TheVariants.{Srli}
 use Rattle.rv64_isa.specs.declared.instr.StoreKind.TheVariants.{Sd}
 use Rattle.rv64_isa.specs.Rows.{Effect, Stores, Cleans, Fences, read}
 use Rattle.rv64_isa.specs.Signed.{twos_complement}
-use Rattle.memory_layout.specs.Roles.{bank_offset, is_kept, is_temporary}
+use Rattle.memory_layout.specs.Roles.{bank_offset, is_temporary}
 use Rattle.operator_code.specs.StraightLineCode.{IsConstant}
 
 pub record Boundary : Type 0 where
@@ -32,6 +36,10 @@ pub record Boundary : Type 0 where
   pub live : List ℕ
   -- how far after the boundary's end recovery resumes, in bytes
   pub resume : ℤ
+  -- where each write has a record: how many bytes the one has that comes next, or none comes
+  pub written : Option ℕ
+  -- it opens a section
+  pub opens : Bool
 
 abbrev pub is_empty : (locks : List ℕ) → Bool
 is_empty [] = true
@@ -51,23 +59,40 @@ abbrev pub words_for : Keeping → (codes : List (List Instr)) → ℕ
 words_for Masked codes = 0
 words_for Listed codes = number_words codes
 
+-- how many it takes to tell of a write, and to clean the frame
+abbrev pub frame_words : Locals → ℕ
+frame_words Registers = 0
+frame_words Frame = 12
+
 -- how many words a boundary's code has at most, beside one for each live register and those that the locks take
 abbrev pub fixed_words : Log → ℕ
-fixed_words log = 27 + 2 * lines_in_bank (size_of log)
+fixed_words log = 27 + 2 * lines_in_bank (size_of log) + frame_words (locals_of log)
 
 abbrev pub words_beside : Log → (codes : List (List Instr)) → ℕ
 words_beside log codes = fixed_words log + words_for (keeping_of log) codes
 
--- the slots of a bank that a boundary writes
-abbrev pub slots_kept : Log → (locks live : List ℕ) → List ℕ
-slots_kept log locks live = map (λ (kept : ℕ × ℕ). kept.0) (kept_locks log locks) ++ map (register_slot log) live
+-- the slots of a bank that a boundary writes, and but for the registers what they get
+abbrev pub pairs_kept : Log → (locks : List ℕ) → (written : Option ℕ) → List (ℕ × ℕ)
+pairs_kept log locks written = kept_locks log locks ++ told log written
 
--- the bank gets the locks and the live registers, and its lines in use are cleaned
+abbrev pub slots_kept : Log → (locks : List ℕ) → (written : Option ℕ) → (live : List ℕ) → List ℕ
+slots_kept log locks written live = map (λ (kept : ℕ × ℕ). kept.0) (pairs_kept log locks written) ++ map (register_slot log) live
+
+-- the lines of the frame that are cleaned: all of them where a section is opened, so that it begins with its locals durable
+abbrev pub frame_lines_at : Locals → (opens : Bool) → List ℕ
+frame_lines_at Registers opens = []
+frame_lines_at Frame opens = if opens then numbers_from 0 FRAME_LINES else []
+
+abbrev pub frame_lines : Log → (opens : Bool) → List ℕ
+frame_lines log opens = frame_lines_at (locals_of log) opens
+
+-- the bank gets the locks, what is told of a write, and the live registers; its lines in use are cleaned, and those of the frame
 abbrev pub bank_effects : Boundary → (bank : ℕ) → (registers : List ℕ) → List Effect
 bank_effects b bank x =
-    map (λ (kept : ℕ × ℕ). Stores (slot_at b.log b.thread bank kept.0) 8 kept.1) (kept_locks b.log b.locks) ++
+    map (λ (kept : ℕ × ℕ). Stores (slot_at b.log b.thread bank kept.0) 8 kept.1) (pairs_kept b.log b.locks b.written) ++
     map (λ r. Stores (slot_at b.log b.thread bank (register_slot b.log r)) 8 (read x r)) b.live ++
-    map (λ line. Cleans (slot_at b.log b.thread bank (8 * line))) (lines_in_use b.log (slots_kept b.log b.locks b.live))
+    map (λ line. Cleans (slot_at b.log b.thread bank (8 * line))) (lines_in_use b.log (slots_kept b.log b.locks b.written b.live)) ++
+    map (λ line. Cleans (frame_at b.log b.thread (8 * line))) (frame_lines b.log b.opens)
 
 -- all that was cleaned is durable, before the point has a value, and then that is
 abbrev pub commit_effects : Log → (thread point : ℕ) → List Effect
@@ -124,6 +149,11 @@ abbrev pub keep_locks : Log → (index : ℕ) → (codes : List (List Instr)) �
 keep_locks log index [] = []
 keep_locks log index (code ∷ codes) = code ++ Store Sd 5 30 (64 + 8 * lock_slot log index) ∷ keep_locks log (index + 1) codes
 
+-- what is told of a write gets its slots: each of these numbers is small
+abbrev pub keep_told : (pairs : List (ℕ × ℕ)) → List Instr
+keep_told [] = []
+keep_told (one ∷ pairs) = OpImmediate Addi 7 0 one.1 ∷ Store Sd 7 30 (64 + 8 * one.0) ∷ keep_told pairs
+
 -- each live register gets its slot
 abbrev pub keep_slots : Log → (live : List ℕ) → List Instr
 keep_slots log [] = []
@@ -132,6 +162,11 @@ keep_slots log (r ∷ rs) = Store Sd r 30 (64 + 8 * register_slot log r) ∷ kee
 abbrev pub clean_lines : (lines : List ℕ) → List Instr
 clean_lines [] = []
 clean_lines (line ∷ lines) = OpImmediate Addi 7 30 (64 + 64 * line) ∷ CboClean 7 ∷ clean_lines lines
+
+-- lines of the frame
+abbrev pub clean_frame : (lines : List ℕ) → List Instr
+clean_frame [] = []
+clean_frame (line ∷ lines) = OpImmediate Addi 7 31 (FRAME + 64 * line) ∷ CboClean 7 ∷ clean_frame lines
 
 -- x30 gets the address where recovery resumes, and the number of the bank. That address lies so many bytes after the boundary's end, in two's complement of 32
 -- bits
@@ -149,8 +184,9 @@ commit register = Store Sd register 31 0 ∷ CboClean 31 ∷ Fence ∷ []
 abbrev pub boundary_list : Boundary → (address first : List Instr) → (codes : List (List Instr)) → List Instr
 boundary_list b address first codes =
     if is_empty b.locks then address ++ Fence ∷ commit 0
-    else OpImmediate Xori 3 3 (bank_bytes b.log) ∷ address ++ Op Add 30 31 3 ∷ first ++ Store Sd 7 30 64 ∷ keep_locks b.log 0 codes ++ keep_slots b.log b.live
-    ++ clean_lines (lines_in_use b.log (slots_kept b.log b.locks b.live)) ++ Fence ∷ point b.log (twos_complement 32 b.resume) ++ commit 30
+    else OpImmediate Xori 3 3 (bank_bytes b.log) ∷ address ++ Op Add 30 31 3 ∷ first ++ Store Sd 7 30 64 ∷ keep_locks b.log 0 codes
+    ++ keep_told (told b.log b.written) ++ keep_slots b.log b.live ++ clean_lines (lines_in_use b.log (slots_kept b.log b.locks b.written b.live))
+    ++ clean_frame (frame_lines b.log b.opens) ++ Fence ∷ point b.log (twos_complement 32 b.resume) ++ commit 30
 
 -- the code of a boundary, where these are the codes of the numbers of the locks that have slots of their own
 pub record IsBoundaryCode (b : Boundary) (codes : List (List Instr)) (code : List Instr) : Type 0 where
@@ -163,7 +199,9 @@ pub record IsBoundaryCode (b : Boundary) (codes : List (List Instr)) (code : Lis
   -- there is room for all of it
   pub few : length codes ≤ MOST_LISTED
   pub thread_is : b.thread < MOST_THREADS
-  pub live_are : list_all is_kept b.live ≡ true
+  pub live_are : list_all (may_keep b.log) b.live ≡ true
+  -- a number of bytes is small
+  pub bytes : (bytes : ℕ) → b.written ≡ Some bytes → bytes ≤ 8
   pub low : negsuc 262143 ≤ℤ b.resume
   pub high : b.resume ≤ℤ pos 262144
 

@@ -3,5 +3,7 @@
 
 mod code;
 pub mod laws;
+mod written;
 
 pub use code::{boundary, boundary_list};
+pub use written::Written;

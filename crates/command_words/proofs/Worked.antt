@@ -2,13 +2,14 @@
 use Rattle.std.specs.Prelude.{◌≡◌, [], ◌∷◌, Some, None, true, false, refl, codes, replicate}
 use Rattle.clap.proofs.OnLiterals.{clap_on_literals}
 use Rattle.command_words.specs.declared.command.Command.TheVariants as command
+use Rattle.command_words.specs.declared.scheme.SchemeName.TheVariants.{Ido, Justdo}
 use Rattle.command_words.specs.Commands.{command_of, crashes_of}
 
-play_is_taken : command_of (codes "ido" ∷ codes "play" ∷ []) ≡ Some (command.Play false)
+play_is_taken : command_of (codes "ido" ∷ codes "play" ∷ []) ≡ Some (command.Play false Ido)
 unfolding command_of clap_on_literals
 play_is_taken = refl
 
-fences_are_taken : command_of (codes "ido" ∷ codes "play" ∷ codes "--fences" ∷ []) ≡ Some (command.Play true)
+fences_are_taken : command_of (codes "ido" ∷ codes "play" ∷ codes "--fences" ∷ []) ≡ Some (command.Play true Ido)
 unfolding command_of clap_on_literals
 fences_are_taken = refl
 
@@ -20,7 +21,7 @@ fences_of_play_alone : command_of (codes "ido" ∷ codes "image" ∷ codes "--fe
 unfolding command_of clap_on_literals
 fences_of_play_alone = refl
 
-compile_is_taken : command_of (codes "ido" ∷ codes "compile" ∷ []) ≡ Some command.Compile
+compile_is_taken : command_of (codes "ido" ∷ codes "compile" ∷ []) ≡ Some (command.Compile Ido)
 unfolding command_of clap_on_literals
 compile_is_taken = refl
 
@@ -48,7 +49,7 @@ source_is_taken : command_of (codes "ido" ∷ codes "source" ∷ []) ≡ Some co
 unfolding command_of clap_on_literals
 source_is_taken = refl
 
-image_is_taken : command_of (codes "ido" ∷ codes "image" ∷ []) ≡ Some command.Image
+image_is_taken : command_of (codes "ido" ∷ codes "image" ∷ []) ≡ Some (command.Image Ido)
 unfolding command_of clap_on_literals
 image_is_taken = refl
 
@@ -113,17 +114,17 @@ unfolding command_of clap_on_literals
 seed_is_wanted = refl
 
 seeded_is_taken : command_of (codes "ido" ∷ codes "seeded" ∷ codes "18446744073709551615" ∷ codes "1000000" ∷ []) ≡
-    Some (command.Seeded 18446744073709551615 1000000 [] false)
+    Some (command.Seeded 18446744073709551615 1000000 [] false Ido)
 unfolding command_of clap_on_literals
 seeded_is_taken = refl
 
 crashes_are_taken : command_of (codes "ido" ∷ codes "seeded" ∷ codes "7" ∷ codes "0" ∷ codes "4000000" ∷ codes "0" ∷ codes "0" ∷ []) ≡
-    Some (command.Seeded 7 0 (4000000 ∷ 0 ∷ 0 ∷ []) false)
+    Some (command.Seeded 7 0 (4000000 ∷ 0 ∷ 0 ∷ []) false Ido)
 unfolding command_of clap_on_literals
 crashes_are_taken = refl
 
 draws_journal_is_taken : command_of (codes "ido" ∷ codes "seeded" ∷ codes "7" ∷ codes "--journal" ∷ codes "10" ∷ codes "3" ∷ []) ≡
-    Some (command.Seeded 7 10 (3 ∷ []) true)
+    Some (command.Seeded 7 10 (3 ∷ []) true Ido)
 unfolding command_of clap_on_literals
 draws_journal_is_taken = refl
 
@@ -142,18 +143,18 @@ crash_is_a_number = refl
 no_more_crashes : crashes_of (replicate 1001 (codes "1")) ≡ None
 no_more_crashes = refl
 
-live_is_taken : command_of (codes "ido" ∷ codes "live" ∷ codes "1000000" ∷ []) ≡ Some (command.Live 1000000 [] None false)
+live_is_taken : command_of (codes "ido" ∷ codes "live" ∷ codes "1000000" ∷ []) ≡ Some (command.Live 1000000 [] None false Ido)
 unfolding command_of clap_on_literals
 live_is_taken = refl
 
 live_is_taken_whole : command_of
     (codes "ido" ∷ codes "live" ∷ codes "0" ∷ codes "4000000" ∷ codes "0" ∷ codes "--evict" ∷ codes "18446744073709551615" ∷ codes "--journal" ∷ []) ≡
-    Some (command.Live 0 (4000000 ∷ 0 ∷ []) (Some 18446744073709551615) true)
+    Some (command.Live 0 (4000000 ∷ 0 ∷ []) (Some 18446744073709551615) true Ido)
 unfolding command_of clap_on_literals
 live_is_taken_whole = refl
 
 options_stand_anywhere : command_of (codes "ido" ∷ codes "live" ∷ codes "--journal" ∷ codes "5" ∷ codes "--evict=7" ∷ codes "9" ∷ []) ≡
-    Some (command.Live 5 (9 ∷ []) (Some 7) true)
+    Some (command.Live 5 (9 ∷ []) (Some 7) true Ido)
 unfolding command_of clap_on_literals
 options_stand_anywhere = refl
 
@@ -193,7 +194,7 @@ no_more_turns_of_live : command_of (codes "ido" ∷ codes "live" ∷ codes "1000
 unfolding command_of clap_on_literals
 no_more_turns_of_live = refl
 
-load_is_taken : command_of (codes "ido" ∷ codes "load" ∷ codes "100" ∷ codes "4294967295" ∷ []) ≡ Some (command.Load 100 4294967295)
+load_is_taken : command_of (codes "ido" ∷ codes "load" ∷ codes "100" ∷ codes "4294967295" ∷ []) ≡ Some (command.Load 100 4294967295 Ido)
 unfolding command_of clap_on_literals
 load_is_taken = refl
 
@@ -232,3 +233,123 @@ no_help = refl
 no_help_of_a_command : command_of (codes "ido" ∷ codes "help" ∷ codes "play" ∷ []) ≡ None
 unfolding command_of clap_on_literals
 no_help_of_a_command = refl
+
+-- ---- Schemes
+
+scheme_is_taken : command_of (codes "ido" ∷ codes "play" ∷ codes "--scheme" ∷ codes "justdo" ∷ []) ≡ Some (command.Play false Justdo)
+unfolding command_of clap_on_literals
+scheme_is_taken = refl
+
+scheme_after_a_sign : command_of (codes "ido" ∷ codes "play" ∷ codes "--scheme=justdo" ∷ []) ≡ Some (command.Play false Justdo)
+unfolding command_of clap_on_literals
+scheme_after_a_sign = refl
+
+scheme_that_is_taken_anyway : command_of (codes "ido" ∷ codes "play" ∷ codes "--scheme" ∷ codes "ido" ∷ []) ≡ Some (command.Play false Ido)
+unfolding command_of clap_on_literals
+scheme_that_is_taken_anyway = refl
+
+flag_before_a_scheme : command_of (codes "ido" ∷ codes "play" ∷ codes "--fences" ∷ codes "--scheme" ∷ codes "justdo" ∷ []) ≡ Some (command.Play true Justdo)
+unfolding command_of clap_on_literals
+flag_before_a_scheme = refl
+
+flag_after_a_scheme : command_of (codes "ido" ∷ codes "play" ∷ codes "--scheme=justdo" ∷ codes "--fences" ∷ []) ≡ Some (command.Play true Justdo)
+unfolding command_of clap_on_literals
+flag_after_a_scheme = refl
+
+scheme_of_an_object : command_of (codes "ido" ∷ codes "compile" ∷ codes "--scheme" ∷ codes "justdo" ∷ []) ≡ Some (command.Compile Justdo)
+unfolding command_of clap_on_literals
+scheme_of_an_object = refl
+
+scheme_of_an_image : command_of (codes "ido" ∷ codes "image" ∷ codes "--scheme" ∷ codes "justdo" ∷ []) ≡ Some (command.Image Justdo)
+unfolding command_of clap_on_literals
+scheme_of_an_image = refl
+
+sweep_is_taken : command_of (codes "ido" ∷ codes "sweep" ∷ []) ≡ Some (command.Sweep Ido)
+unfolding command_of clap_on_literals
+sweep_is_taken = refl
+
+scheme_of_a_sweep : command_of (codes "ido" ∷ codes "sweep" ∷ codes "--scheme" ∷ codes "justdo" ∷ []) ≡ Some (command.Sweep Justdo)
+unfolding command_of clap_on_literals
+scheme_of_a_sweep = refl
+
+scheme_of_draws : command_of (codes "ido" ∷ codes "seeded" ∷ codes "7" ∷ codes "--scheme" ∷ codes "justdo" ∷ codes "10" ∷ codes "3" ∷ codes "--journal" ∷ []) ≡
+    Some (command.Seeded 7 10 (3 ∷ []) true Justdo)
+unfolding command_of clap_on_literals
+scheme_of_draws = refl
+
+scheme_of_threads : command_of (codes "ido" ∷ codes "live" ∷ codes "--scheme=justdo" ∷ codes "5" ∷ codes "9" ∷ codes "--evict" ∷ codes "7" ∷ []) ≡
+    Some (command.Live 5 (9 ∷ []) (Some 7) false Justdo)
+unfolding command_of clap_on_literals
+scheme_of_threads = refl
+
+scheme_of_a_load : command_of (codes "ido" ∷ codes "load" ∷ codes "1" ∷ codes "0" ∷ codes "--scheme" ∷ codes "justdo" ∷ []) ≡ Some (command.Load 1 0 Justdo)
+unfolding command_of clap_on_literals
+scheme_of_a_load = refl
+
+no_scheme_of_another_case : command_of (codes "ido" ∷ codes "play" ∷ codes "--scheme" ∷ codes "JUSTDO" ∷ []) ≡ None
+unfolding command_of clap_on_literals
+no_scheme_of_another_case = refl
+
+no_scheme_of_another_name : command_of (codes "ido" ∷ codes "play" ∷ codes "--scheme" ∷ codes "justdoit" ∷ []) ≡ None
+unfolding command_of clap_on_literals
+no_scheme_of_another_name = refl
+
+no_empty_scheme : command_of (codes "ido" ∷ codes "play" ∷ codes "--scheme=" ∷ []) ≡ None
+unfolding command_of clap_on_literals
+no_empty_scheme = refl
+
+scheme_wants_a_name : command_of (codes "ido" ∷ codes "play" ∷ codes "--scheme" ∷ []) ≡ None
+unfolding command_of clap_on_literals
+scheme_wants_a_name = refl
+
+one_scheme : command_of (codes "ido" ∷ codes "play" ∷ codes "--scheme" ∷ codes "justdo" ∷ codes "--scheme" ∷ codes "justdo" ∷ []) ≡ None
+unfolding command_of clap_on_literals
+one_scheme = refl
+
+no_scheme_before_the_command : command_of (codes "ido" ∷ codes "--scheme" ∷ codes "ido" ∷ codes "play" ∷ []) ≡ None
+unfolding command_of clap_on_literals
+no_scheme_before_the_command = refl
+
+no_scheme_after_dashes : command_of (codes "ido" ∷ codes "play" ∷ codes "--" ∷ codes "--scheme" ∷ codes "justdo" ∷ []) ≡ None
+unfolding command_of clap_on_literals
+no_scheme_after_dashes = refl
+
+no_scheme_without_hyphens : command_of (codes "ido" ∷ codes "play" ∷ codes "justdo" ∷ []) ≡ None
+unfolding command_of clap_on_literals
+no_scheme_without_hyphens = refl
+
+no_shorter_scheme : command_of (codes "ido" ∷ codes "play" ∷ codes "--schem" ∷ codes "justdo" ∷ []) ≡ None
+unfolding command_of clap_on_literals
+no_shorter_scheme = refl
+
+fences_take_no_value : command_of (codes "ido" ∷ codes "play" ∷ codes "--fences=1" ∷ []) ≡ None
+unfolding command_of clap_on_literals
+fences_take_no_value = refl
+
+no_scheme_of_a_recovery : command_of (codes "ido" ∷ codes "recover" ∷ codes "10" ∷ codes "--scheme" ∷ codes "justdo" ∷ []) ≡ None
+unfolding command_of clap_on_literals
+no_scheme_of_a_recovery = refl
+
+no_scheme_of_an_upgrade : command_of (codes "ido" ∷ codes "upgrade" ∷ codes "10" ∷ codes "--scheme" ∷ codes "justdo" ∷ []) ≡ None
+unfolding command_of clap_on_literals
+no_scheme_of_an_upgrade = refl
+
+no_scheme_of_regions : command_of (codes "ido" ∷ codes "regions" ∷ codes "--scheme" ∷ codes "ido" ∷ []) ≡ None
+unfolding command_of clap_on_literals
+no_scheme_of_regions = refl
+
+no_scheme_of_a_listing : command_of (codes "ido" ∷ codes "list" ∷ codes "--scheme" ∷ codes "justdo" ∷ []) ≡ None
+unfolding command_of clap_on_literals
+no_scheme_of_a_listing = refl
+
+no_scheme_of_a_source : command_of (codes "ido" ∷ codes "source" ∷ codes "--scheme" ∷ codes "justdo" ∷ []) ≡ None
+unfolding command_of clap_on_literals
+no_scheme_of_a_source = refl
+
+no_scheme_of_an_order : command_of (codes "ido" ∷ codes "order" ∷ codes "--scheme" ∷ codes "justdo" ∷ []) ≡ None
+unfolding command_of clap_on_literals
+no_scheme_of_an_order = refl
+
+no_scheme_of_a_made_source : command_of (codes "ido" ∷ codes "make" ∷ codes "1" ∷ codes "0" ∷ codes "--scheme" ∷ codes "justdo" ∷ []) ≡ None
+unfolding command_of clap_on_literals
+no_scheme_of_a_made_source = refl

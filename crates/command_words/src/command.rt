@@ -5,12 +5,14 @@ ghost use Rattle.clap.specs.Matches.{found_of};
 ghost use Rattle.clap.specs.Simple.{new_shape};
 ghost use Rattle.clap.specs.Walk.{rows_of};
 ghost use Rattle.clap.specs.Words.{app_of, rule_of, with_subcommand};
-ghost use Rattle.command_words.specs.Commands.{command_by_name, command_of, crash_rule, crashes_in, crashes_of, evict_rule, flag_rule, flag_shape, is_set};
-ghost use Rattle.command_words.specs.Commands.{live_in, live_shape, load_in, load_shape, make_in, make_shape, most_crash, most_loaded_rounds};
-ghost use Rattle.command_words.specs.Commands.{most_rounds, most_turns, needs_threads, number_in, number_of, number_rule, numbers_of, play_in, reads_input};
-ghost use Rattle.command_words.specs.Commands.{recover_in, regions_in, seeded_in, seeded_shape, table, turns_shape, upgrade_in};
+ghost use Rattle.command_words.specs.Commands.{command_by_name, command_of, compile_in, crash_rule, crashes_in, crashes_of, evict_rule, flag_rule, flag_shape};
+ghost use Rattle.command_words.specs.Commands.{image_in, is_set, live_in, live_shape, load_in, load_shape, make_in, make_shape, most_crash, most_loaded_rounds};
+ghost use Rattle.command_words.specs.Commands.{most_rounds, most_turns, needs_threads, number_in, number_of, number_rule, numbers_of, one_shape, play_in};
+ghost use Rattle.command_words.specs.Commands.{play_shape, reads_input, recover_in, regions_in, scheme_in, scheme_named, scheme_rule, scheme_shape, seeded_in};
+ghost use Rattle.command_words.specs.Commands.{seeded_shape, sweep_in, table, turns_shape, upgrade_in};
 
 use crate::crashes::Crashes;
+use crate::scheme::SchemeName;
 use clap::builder::ValueParser;
 use clap::error::ErrorKind;
 use clap::{Arg, ArgAction, ArgMatches};
@@ -20,11 +22,13 @@ use std::alloc::{AllocError, Global};
 /// Crash words at most.
 const MOST_CRASHES: usize = 1000;
 
-/// A command of the program.
+/// A command of the program. One that compiles a source to be run does so for a scheme of logging.
 #[derive(Drop)]
 pub enum Command {
     /// Writes the object of a source.
-    Compile,
+    Compile {
+        scheme: SchemeName,
+    },
     /// Lists an object.
     List,
     /// Lists the nodes of a source, and the boundaries among them; and how few there are in straight code, where that is asked.
@@ -34,11 +38,14 @@ pub enum Command {
     /// Runs a compiled source by a script, and tells how many fences each hart has finished, where that is asked.
     Play {
         fences: bool,
+        scheme: SchemeName,
     },
     /// Runs a source by itself, by a schedule.
     Source,
     /// Writes what a crash after a script would leave.
-    Image,
+    Image {
+        scheme: SchemeName,
+    },
     /// Whether each thread of a source locks its mutexes in one order: that of their declarations, and within an array that of its elements, by keys that
     /// are plain numbers.
     Order,
@@ -61,6 +68,7 @@ pub enum Command {
         turns: u32,
         crashes: Crashes,
         journal: bool,
+        scheme: SchemeName,
     },
     /// Runs a compiled source with each hart in a thread of its own: legs of so many turns of each hart, 0 to 1,000,000, which the
     /// crashes end, and with evictions that a seed draws, where there is one. Writes the report, or the journal.
@@ -69,14 +77,18 @@ pub enum Command {
         crashes: Crashes,
         evict: Option<u64>,
         journal: bool,
+        scheme: SchemeName,
     },
     /// Runs the source of a seed, whose threads make so many rounds, 1 to 100, with each hart in a thread of its own.
     Load {
         rounds: u32,
         seed: u32,
+        scheme: SchemeName,
     },
     /// Runs a compiled source by a script up to each of its events, and on from a crash there.
-    Sweep,
+    Sweep {
+        scheme: SchemeName,
+    },
 }
 
 impl Command {
@@ -97,7 +109,7 @@ impl Command {
                 | Command::Recover { .. }
                 | Command::Upgrade { .. }
                 | Command::Load { .. }
-                | Command::Sweep
+                | Command::Sweep { .. }
         )
     }
 }
@@ -183,12 +195,33 @@ fn evict_option<'a>(alloc: Global) -> Arg<'a>
         .value_parser(long_parser())
 }
 
+/// The option `--scheme`, whose word is a scheme's name.
+fn scheme_option<'a>(alloc: Global) -> Arg<'a>
+    ensures rule { rule_of result ≡ scheme_rule }
+    ensures local { result.global ≡ false }
+{
+    Arg::new(alloc, "scheme").long("scheme")
+}
+
 /// The flag of this name, with two hyphens before it.
 fn flag<'a>(alloc: Global, name: &'a str) -> Arg<'a>
     ensures rule { rule_of result ≡ flag_rule name.entry.now }
     ensures local { result.global ≡ false }
 {
     Arg::new(alloc, name).long(name).action(ArgAction::SetTrue)
+}
+
+/// A table with one command more, which takes one word, option or flag.
+fn with_one<'a>(
+    alloc: Global,
+    table: clap::Command<'a>,
+    name: &'a str,
+    word: Arg<'a>,
+) -> Result<clap::Command<'a>, AllocError>
+    requires { word.global ≡ false }
+    ensures { IfOk result (λ c. app_of c ≡ with_subcommand (app_of table.entry) (one_shape name.entry.now (rule_of word.entry))) }
+{
+    table.subcommand(clap::Command::new(alloc, name).arg(word)?)
 }
 
 /// A table with one command more, which takes a flag.
@@ -200,8 +233,29 @@ fn with_flag<'a>(
 ) -> Result<clap::Command<'a>, AllocError>
     ensures { IfOk result (λ c. app_of c ≡ with_subcommand (app_of table.entry) (flag_shape name.entry.now word.entry.now)) }
 {
-    let flag = flag(alloc, word);
-    table.subcommand(clap::Command::new(alloc, name).arg(flag)?)
+    with_one(alloc, table, name, flag(alloc, word))
+}
+
+/// A table with one command more, which takes a scheme.
+fn with_scheme<'a>(
+    alloc: Global,
+    table: clap::Command<'a>,
+    name: &'a str,
+) -> Result<clap::Command<'a>, AllocError>
+    ensures { IfOk result (λ c. app_of c ≡ with_subcommand (app_of table.entry) (scheme_shape name.entry.now)) }
+{
+    with_one(alloc, table, name, scheme_option(alloc))
+}
+
+/// A table with the command `play` more, which takes a flag and a scheme.
+fn with_play<'a>(alloc: Global, table: clap::Command<'a>) -> Result<clap::Command<'a>, AllocError>
+    ensures { IfOk result (λ c. app_of c ≡ with_subcommand (app_of table.entry) play_shape) }
+{
+    let fences = flag(alloc, "fences");
+    let scheme = scheme_option(alloc);
+    let one = clap::Command::new(alloc, "play").arg(fences)?;
+    let two = one.arg(scheme)?;
+    table.subcommand(two)
 }
 
 /// A table with one command more, which takes a number of turns.
@@ -213,7 +267,7 @@ fn with_turns<'a>(
     ensures { IfOk result (λ c. app_of c ≡ with_subcommand (app_of table.entry) (turns_shape name.entry.now)) }
 {
     let turns = number_word(alloc, "TURNS", turns_parser());
-    table.subcommand(clap::Command::new(alloc, name).arg(turns)?)
+    with_one(alloc, table, name, turns)
 }
 
 /// A table with the command `make` more, which takes two numbers.
@@ -227,7 +281,7 @@ fn with_make<'a>(alloc: Global, table: clap::Command<'a>) -> Result<clap::Comman
     table.subcommand(two)
 }
 
-/// A table with the command `seeded` more, which takes two numbers and any number of others, and a flag.
+/// A table with the command `seeded` more, which takes two numbers and any number of others, a flag and a scheme.
 fn with_seeded<'a>(alloc: Global, table: clap::Command<'a>) -> Result<clap::Command<'a>, AllocError>
     ensures { IfOk result (λ c. app_of c ≡ with_subcommand (app_of table.entry) seeded_shape) }
 {
@@ -235,14 +289,16 @@ fn with_seeded<'a>(alloc: Global, table: clap::Command<'a>) -> Result<clap::Comm
     let turns = number_word(alloc, "TURNS", turns_parser());
     let crashes = crash_words(alloc);
     let journal = flag(alloc, "journal");
+    let scheme = scheme_option(alloc);
     let one = clap::Command::new(alloc, "seeded").arg(seed)?;
     let two = one.arg(turns)?;
     let three = two.arg(crashes)?;
     let four = three.arg(journal)?;
-    table.subcommand(four)
+    let five = four.arg(scheme)?;
+    table.subcommand(five)
 }
 
-/// A table with the command `live` more, which takes a number and any number of others, an option and a flag.
+/// A table with the command `live` more, which takes a number and any number of others, an option, a flag and a scheme.
 fn with_live<'a>(alloc: Global, table: clap::Command<'a>) -> Result<clap::Command<'a>, AllocError>
     ensures { IfOk result (λ c. app_of c ≡ with_subcommand (app_of table.entry) live_shape) }
 {
@@ -250,22 +306,26 @@ fn with_live<'a>(alloc: Global, table: clap::Command<'a>) -> Result<clap::Comman
     let crashes = crash_words(alloc);
     let evict = evict_option(alloc);
     let journal = flag(alloc, "journal");
+    let scheme = scheme_option(alloc);
     let one = clap::Command::new(alloc, "live").arg(turns)?;
     let two = one.arg(crashes)?;
     let three = two.arg(evict)?;
     let four = three.arg(journal)?;
-    table.subcommand(four)
+    let five = four.arg(scheme)?;
+    table.subcommand(five)
 }
 
-/// A table with the command `load` more, which takes two numbers.
+/// A table with the command `load` more, which takes two numbers and a scheme.
 fn with_load<'a>(alloc: Global, table: clap::Command<'a>) -> Result<clap::Command<'a>, AllocError>
     ensures { IfOk result (λ c. app_of c ≡ with_subcommand (app_of table.entry) load_shape) }
 {
     let rounds = number_word(alloc, "N", loaded_rounds_parser());
     let seed = number_word(alloc, "SEED", short_parser());
+    let scheme = scheme_option(alloc);
     let one = clap::Command::new(alloc, "load").arg(rounds)?;
     let two = one.arg(seed)?;
-    table.subcommand(two)
+    let three = two.arg(scheme)?;
+    table.subcommand(three)
 }
 
 /// The commands, as `clap` takes them.
@@ -273,12 +333,12 @@ fn table<'a>(alloc: Global) -> Result<clap::Command<'a>, AllocError>
     ensures { IfOk result (λ c. app_of c ≡ table) }
 {
     let empty = clap::Command::new(alloc, "ido").subcommand_required(true);
-    let one = with_command(alloc, empty, "compile")?;
+    let one = with_scheme(alloc, empty, "compile")?;
     let two = with_command(alloc, one, "list")?;
     let three = with_flag(alloc, two, "regions", "least")?;
-    let four = with_flag(alloc, three, "play", "fences")?;
+    let four = with_play(alloc, three)?;
     let five = with_command(alloc, four, "source")?;
-    let six = with_command(alloc, five, "image")?;
+    let six = with_scheme(alloc, five, "image")?;
     let seven = with_command(alloc, six, "order")?;
     let eight = with_turns(alloc, seven, "recover")?;
     let nine = with_turns(alloc, eight, "upgrade")?;
@@ -286,7 +346,7 @@ fn table<'a>(alloc: Global) -> Result<clap::Command<'a>, AllocError>
     let eleven = with_seeded(alloc, ten)?;
     let twelve = with_live(alloc, eleven)?;
     let thirteen = with_load(alloc, twelve)?;
-    with_command(alloc, thirteen, "sweep")
+    with_scheme(alloc, thirteen, "sweep")
 }
 
 /// The number of 32 bits that a word of this name is.
@@ -364,6 +424,51 @@ fn crashes_in(alloc: Global, matches: &ArgMatches) -> Result<Option<Crashes>, Ou
     }
 }
 
+/// The scheme of this name.
+fn scheme_named(name: &str) -> Option<SchemeName>
+    ensures { result ≡ scheme_named name.now }
+{
+    match name {
+        "ido" => Some(SchemeName::Ido),
+        "justdo" => Some(SchemeName::Justdo),
+        _ => None,
+    }
+}
+
+/// The scheme that is asked for: `ido` where the words tell none.
+fn scheme_in(matches: &ArgMatches) -> Option<SchemeName>
+    ensures { result ≡ scheme_in (rows_of (found_of matches.now)) }
+{
+    match matches.get_str("scheme") {
+        Some(name) => scheme_named(name),
+        None => Some(SchemeName::Ido),
+    }
+}
+
+/// The command `compile` by its words.
+fn compile_in(matches: &ArgMatches) -> Option<Command>
+    ensures { result ≡ compile_in (rows_of (found_of matches.now)) }
+{
+    let scheme = scheme_in(matches)?;
+    Some(Command::Compile { scheme })
+}
+
+/// The command `image` by its words.
+fn image_in(matches: &ArgMatches) -> Option<Command>
+    ensures { result ≡ image_in (rows_of (found_of matches.now)) }
+{
+    let scheme = scheme_in(matches)?;
+    Some(Command::Image { scheme })
+}
+
+/// The command `sweep` by its words.
+fn sweep_in(matches: &ArgMatches) -> Option<Command>
+    ensures { result ≡ sweep_in (rows_of (found_of matches.now)) }
+{
+    let scheme = scheme_in(matches)?;
+    Some(Command::Sweep { scheme })
+}
+
 /// The command `regions` by its words.
 fn regions_in(matches: &ArgMatches) -> Command
     ensures { result ≡ regions_in (rows_of (found_of matches.now)) }
@@ -373,11 +478,12 @@ fn regions_in(matches: &ArgMatches) -> Command
 }
 
 /// The command `play` by its words.
-fn play_in(matches: &ArgMatches) -> Command
+fn play_in(matches: &ArgMatches) -> Option<Command>
     ensures { result ≡ play_in (rows_of (found_of matches.now)) }
 {
     let fences = is_set(matches, "fences");
-    Command::Play { fences }
+    let scheme = scheme_in(matches)?;
+    Some(Command::Play { fences, scheme })
 }
 
 /// The command `recover` by its words.
@@ -415,6 +521,9 @@ fn seeded_in(alloc: Global, matches: &ArgMatches) -> Result<Option<Command>, Out
     let Some(turns) = short_number(matches, "TURNS") else {
         return Ok(None);
     };
+    let Some(scheme) = scheme_in(matches) else {
+        return Ok(None);
+    };
     let journal = is_set(matches, "journal");
     match crashes_in(alloc, matches)? {
         Some(crashes) => Ok(Some(Command::Seeded {
@@ -422,6 +531,7 @@ fn seeded_in(alloc: Global, matches: &ArgMatches) -> Result<Option<Command>, Out
             turns,
             crashes,
             journal,
+            scheme,
         })),
         None => Ok(None),
     }
@@ -434,6 +544,9 @@ fn live_in(alloc: Global, matches: &ArgMatches) -> Result<Option<Command>, OutOf
     let Some(turns) = short_number(matches, "TURNS") else {
         return Ok(None);
     };
+    let Some(scheme) = scheme_in(matches) else {
+        return Ok(None);
+    };
     let evict = long_number(matches, "evict");
     let journal = is_set(matches, "journal");
     match crashes_in(alloc, matches)? {
@@ -442,6 +555,7 @@ fn live_in(alloc: Global, matches: &ArgMatches) -> Result<Option<Command>, OutOf
             crashes,
             evict,
             journal,
+            scheme,
         })),
         None => Ok(None),
     }
@@ -453,7 +567,12 @@ fn load_in(matches: &ArgMatches) -> Option<Command>
 {
     let rounds = short_number(matches, "N")?;
     let seed = short_number(matches, "SEED")?;
-    Some(Command::Load { rounds, seed })
+    let scheme = scheme_in(matches)?;
+    Some(Command::Load {
+        rounds,
+        seed,
+        scheme,
+    })
 }
 
 /// The command of a name, by what its own words are.
@@ -465,12 +584,12 @@ fn command_by_name(
     ensures { IfOk result (λ c. c ≡ command_by_name name.now (rows_of (found_of matches.now))) }
 {
     match name {
-        "compile" => Ok(Some(Command::Compile)),
+        "compile" => Ok(compile_in(matches)),
         "list" => Ok(Some(Command::List)),
         "regions" => Ok(Some(regions_in(matches))),
-        "play" => Ok(Some(play_in(matches))),
+        "play" => Ok(play_in(matches)),
         "source" => Ok(Some(Command::Source)),
-        "image" => Ok(Some(Command::Image)),
+        "image" => Ok(image_in(matches)),
         "order" => Ok(Some(Command::Order)),
         "recover" => Ok(recover_in(matches)),
         "upgrade" => Ok(upgrade_in(matches)),
@@ -478,7 +597,7 @@ fn command_by_name(
         "seeded" => seeded_in(alloc, matches),
         "live" => live_in(alloc, matches),
         "load" => Ok(load_in(matches)),
-        "sweep" => Ok(Some(Command::Sweep)),
+        "sweep" => Ok(sweep_in(matches)),
         _ => Ok(None),
     }
 }

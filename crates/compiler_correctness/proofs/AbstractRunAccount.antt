@@ -126,4 +126,4 @@ pub points_name : (p : Plan) (code : Code p) (s : FlowState) (r : Record) → De
     Contains code.program.resumes (resume_of r.point)
 points_name p code s r (between none point) some = absurd (some point)
 points_name p code s r (inside holds i) some =
-    (code.is.resumes (resume_of r.point)).1 (resumed_there p code i.graph_thread.at (resume_of r.point) i.own i.resumes)
+    (code.is.resumes (resume_of r.point)).1 (resumed_there p code i.graph_thread.at i.place (resume_of r.point) i.own i.resumes)

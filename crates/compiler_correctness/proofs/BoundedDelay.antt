@@ -19,11 +19,13 @@ use Rattle.flow_graph.proofs.Public.{get_cases, no_more}
 use Rattle.hart_runs.specs.Calls.{IsInPhase}
 use Rattle.thread_runs.specs.Laws.{FragmentsGoOn}
 use Rattle.crash_simulation.specs.Systems.{System, IsSystem, thread_count}
+use Rattle.log_schemes.specs.declared.log.Log.{Log}
+use Rattle.boundary_code.specs.Boundaries.{frame_lines}
 use Rattle.crash_simulation.specs.StepsToMark.{most_ahead}
 use Rattle.crash_simulation.specs.ThreadGhosts.{IsRunningThread, InPhase, on_fragment, at_core}
 use Rattle.crash_simulation.specs.SimulationRelation.{Simulates}
 use Rattle.crash_simulation.specs.Laws.{EventsStand}
-use Rattle.crash_simulation.specs.InstructionSteps.{FragmentsStep, CoresStep, Nears, begins_step, waits, is_nearer, halts}
+use Rattle.crash_simulation.specs.InstructionSteps.{FragmentsStep, CoresStep, LocalStoresStep, Nears, begins_step, waits, is_nearer, halts}
 use Rattle.crash_simulation.proofs.Public.{start_simulates, phase_of, GoesOn, event_goes_on, and_none, step_of, not_running, not_there, steps_join, worlds_join}
 use Rattle.compiler_correctness.specs.Translations.{GoOn, HaveNoCrash, Translation, steps, world}
 use Rattle.compiler_correctness.specs.Delays.{is_active_step, active_steps, begun_by, has_waited, IsStopped, GetsOn, GetsOnAmong, delay}
@@ -68,7 +70,8 @@ evict_harts : (program : List (List Slot)) (w : World) (line mask h : ℕ) →
 unfolding happens
 evict_harts program w line mask h = refl
 
-module _ (fragments_step : FragmentsStep) (cores_step : CoresStep) (law : FragmentsGoOn) (y : System) (s : IsSystem y) (h : ℕ) where
+module _ (fragments_step : FragmentsStep) (cores_step : CoresStep) (local_stores_step : LocalStoresStep) (law : FragmentsGoOn) (y : System) (s : IsSystem y)
+    (h : ℕ) where
   abbrev ahead : (w : World) → Simulates y s w → ℕ
   ahead w stands = (stands.ghosts h).before_mark
 
@@ -131,7 +134,7 @@ module _ (fragments_step : FragmentsStep) (cores_step : CoresStep) (law : Fragme
 
   module _ (w : World) (left : ℕ) (near : IsNear w left) where
     abbrev then_near : (event : Event) → GoesOn y s w event near.stands
-    then_near event = event_goes_on fragments_step cores_step law y s w event near.stands
+    then_near event = event_goes_on fragments_step cores_step local_stores_step law y s w event near.stands
 
     -- where nothing happens
     same_near : (event : Event) → after_event y.runs.program w event ≡ w → is_active_step y.runs.program w event h ≡ false → Nearer w event left
@@ -303,11 +306,13 @@ module _ (fragments_step : FragmentsStep) (cores_step : CoresStep) (law : Fragme
       GetsOnAmong y.runs w more h
   delays w stands more none many =
       nearing.gets_on_along y.runs h IsNear (λ u event left on there. falls u left there event on) more w (most_ahead y h) none
-      (most_near w (most_ahead y h) stands (omega arith)) (omega (arith, many))
+      (most_near w (most_ahead y h) stands (omega arith))
+      (let lines : length (frame_lines y.plan.log true) ≡ length (frame_lines y.runs.log true) = ap (λ (l : Log). length (frame_lines l true)) s.log in
+      omega (arith, many, lines))
 
-pub delays_are_bounded : EventsStand → FragmentsStep → CoresStep → FragmentsGoOn → DelaysAreBounded
-delays_are_bounded stand fragments_step cores_step law y s events more h =
-    delays fragments_step cores_step law y s h _ (stands_along stand y s events (first_world y.runs) (start_simulates y s)) more
+pub delays_are_bounded : EventsStand → FragmentsStep → CoresStep → LocalStoresStep → FragmentsGoOn → DelaysAreBounded
+delays_are_bounded stand fragments_step cores_step local_stores_step law y s events more h =
+    delays fragments_step cores_step local_stores_step law y s h _ (stands_along stand y s events (first_world y.runs) (start_simulates y s)) more
 
 -- while the life goes on, a hart that gets on has begun more steps in the end, or has stopped
 pub gets_on_after : (c : Translation) (events more : List Event) (h : ℕ) → length c.runs.program ≡ length (world c events).harts →

@@ -15,7 +15,7 @@ use Rattle.crash_simulation.specs.Systems.{System, IsSystem, flat_of, shapes_of}
 use Rattle.crash_simulation.specs.AbstractRuns.{AbstractRun}
 use Rattle.crash_simulation.specs.SimulationRelation.{Simulates}
 use Rattle.crash_simulation.specs.Laws.{EventsStand}
-use Rattle.crash_simulation.specs.InstructionSteps.{MayStore, FragmentsStep, CoresStep, nothing, in_log, element}
+use Rattle.crash_simulation.specs.InstructionSteps.{MayStore, FragmentsStep, CoresStep, LocalStoresStep, nothing, in_log, element}
 use Rattle.crash_simulation.proofs.Public.{own_by, runs_ready, start_simulates, next_store, not_there}
 use Rattle.std.proofs.lemmas.List.{get_or-map, get_or_past, length-map, length-drop, get_or_append_left, take-append-drop, drop-drop, get_or-drop}
 use Rattle.std.proofs.lemmas.List.{length-take-le, length-append, append_assoc}
@@ -53,14 +53,14 @@ pub is_run : (phase : Phase) → is_running phase ≡ true → phase ≡ Run
 is_run Run e = refl
 is_run phase e = absurd (true≢false (sym e))
 
-module _ (fragments_step : FragmentsStep) (cores_step : CoresStep) (y : System) (s : IsSystem y) (w : World) (g : ℕ) where
+module _ (fragments_step : FragmentsStep) (cores_step : CoresStep) (local_stores_step : LocalStoresStep) (y : System) (s : IsSystem y) (w : World) (g : ℕ) where
   -- a hart stores what its thread may
   pub stores_own : (stands : Simulates y s w) (hart : Hart) (effect : Effect) → IsNext y.runs.program w g hart effect → MayStore y stands.abstract g effect
   stores_own stands hart effect is =
       let i : IsInPhase w g Run = record { hart = hart; here = is.here; phase_is = is_run hart.phase is.runs } in
       let r = runs_ready y s w g stands i in
       subst (λ (b : AbstractRun y). MayStore y b g effect) r.similar.abstract
-      ((own_by fragments_step cores_step y s w g r.site i r.ready).stores_own hart effect is)
+      ((own_by fragments_step cores_step local_stores_step y s w g r.site i r.ready).stores_own hart effect is)
 
 -- ---- No hart stores between the variables and the logs
 
@@ -123,7 +123,7 @@ module _ (y : System) (s : IsSystem y) where
 
   -- ---- What a hart stores
 
-  module _ (fragments_step : FragmentsStep) (cores_step : CoresStep) where
+  module _ (fragments_step : FragmentsStep) (cores_step : CoresStep) (local_stores_step : LocalStoresStep) where
     module _ (j : ℕ) (from : length y.runs.initial / 8 ≤ j) (below : j < VARIABLE_WORDS) where
       -- a hart stores to the variables and to logs alone
       elsewhere : (b : AbstractRun y) (g address bytes value : ℕ) (effect : Effect) → effect ≡ Stores address bytes value → MayStore y b g effect →
@@ -156,7 +156,7 @@ module _ (y : System) (s : IsSystem y) where
           ap (λ (ws : List Word). word_at ws j) is ∙ are_persisted_zero w.words _ j (write_backs_raise w.words e entries.0) z
       worked w g hart queue stands here (Makes address bytes value st is q) z =
           let may =
-          stores_own fragments_step cores_step y s w g stands st.executes.hart (Stores address bytes value)
+          stores_own fragments_step cores_step local_stores_step y s w g stands st.executes.hart (Stores address bytes value)
           (next_store y.runs.program w g address bytes value st) in
           ap (λ (ws : List Word). word_at ws j) is
           ∙ (word_other w.words (byte_number address / 8) j _
@@ -183,10 +183,10 @@ module _ (y : System) (s : IsSystem y) where
       unfolding start_of
       zero_first = let whole = whole_words in word_zero y.runs.log (length y.runs.program) y.runs.initial j (omega (arith, whole, from)) below
 
-pub words_between_stay : EventsStand → FragmentsStep → CoresStep → WordsBetweenStay
-words_between_stay stand fragments_step cores_step y s events word from below =
-    zero_along y s fragments_step cores_step word from below stand events (first_world y.runs) (start_simulates y s)
-    (zero_first y s fragments_step cores_step word from below)
+pub words_between_stay : EventsStand → FragmentsStep → CoresStep → LocalStoresStep → WordsBetweenStay
+words_between_stay stand fragments_step cores_step local_stores_step y s events word from below =
+    zero_along y s fragments_step cores_step local_stores_step word from below stand events (first_world y.runs) (start_simulates y s)
+    (zero_first y s fragments_step cores_step local_stores_step word from below)
 
 -- ---- The words of variables and logs are all of an image
 

@@ -5,6 +5,8 @@ mod AbstractRunAccount
 mod LockCalls
 mod Records
 mod MachineLockstep
+mod NodesOfThreads
+mod FramedLocals
 mod CompiledCodeForm
 mod ImagesAsCrashes
 mod ImageWords

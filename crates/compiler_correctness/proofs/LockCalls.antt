@@ -66,7 +66,7 @@ module _ {y : System} {s : IsSystem y} {w : World} {h : ℕ} (site : Site y s w 
       slice_get (now_of y b).holders lock ≡ Some (Some n)
   none_given mutex next o one (inl has) = has
   none_given mutex next o one (inr gives) =
-      absurd (none-some one (sym (ap (λ (k : ℕ). (stands.ghosts k).giving) (s.codes.number h below) ∙ o.fits.goes.giving) ∙ gives.gives))
+      absurd (none-some one (sym (ap (λ (k : ℕ). (stands.ghosts k).giving) (s.codes.number h below) ∙ o.fits.0.goes.giving) ∙ gives.gives))
 
   by_call : (exit : ExitPoint) → OnFragmentNow site exit 0 → moving.IsCalling exit → Takes y w b n
   by_call _ o (moving.asks mutex next) a =

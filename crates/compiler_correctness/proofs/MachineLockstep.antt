@@ -28,7 +28,7 @@ use Rattle.variable_words.proofs.Public.{well_formed_placed, live_are_memory}
 use Rattle.crash_simulation.specs.Systems.{System, IsSystem, flat_of}
 use Rattle.crash_simulation.specs.ThreadGhosts.{ThreadGhost}
 use Rattle.crash_simulation.specs.SimulationRelation.{SimulatesBut, Simulates}
-use Rattle.crash_simulation.specs.InstructionSteps.{IsUnlocked, was_unlocked, begins_unlock, FragmentsStep, CoresStep}
+use Rattle.crash_simulation.specs.InstructionSteps.{IsUnlocked, was_unlocked, begins_unlock, FragmentsStep, CoresStep, LocalStoresStep}
 use Rattle.crash_simulation.specs.AccountRelation.{SimulatesLives, beginning_after, first_beginning}
 use Rattle.crash_simulation.proofs.Public.{resumed, AreFurthest, counted_by, begun_by, begun_in, Continues, event_goes_on, first_life, first_origin}
 use Rattle.crash_simulation.proofs.Public.{has_begun, HasBegun}
@@ -143,7 +143,8 @@ pub steps_stay : (y : System) (w : World) (steps : Steps) → can_start w ≡ fa
 unfolding steps_after
 steps_stay y w steps none = ap (λ (b : Bool). if b then next_life steps else steps) none
 
-module _ (fragments_step : FragmentsStep) (cores_step : CoresStep) (law : FragmentsGoOn) (y : System) (s : IsSystem y) where
+module _ (fragments_step : FragmentsStep) (cores_step : CoresStep) (local_stores_step : LocalStoresStep) (law : FragmentsGoOn) (y : System)
+    (s : IsSystem y) where
   module _ (w : World) (steps : Steps) (releases : ℕ → ℕ) (going : Going y s w steps releases) where
     abbrev old : Simulates y s w
     old = going.carried.is.stands
@@ -187,10 +188,10 @@ module _ (fragments_step : FragmentsStep) (cores_step : CoresStep) (law : Fragme
       then_unlocked Start new on keeps n mutex gives = absurd keeps
 
       then_in_step : (event : Event) → KeepsOn event →
-          InStep y s (after_event y.runs.program w event) (event_goes_on fragments_step cores_step law y s w event old).next from
+          InStep y s (after_event y.runs.program w event) (event_goes_on fragments_step cores_step local_stores_step law y s w event old).next from
           (steps_after y.runs.marks y.runs.program w event steps).begun
       then_in_step event keeps =
-          let on = (event_goes_on fragments_step cores_step law y s w event old).on keeps in
+          let on = (event_goes_on fragments_step cores_step local_stores_step law y s w event old).on keeps in
           let begun = begun_after y w event keeps steps in
           let more = goes_on from steps.begun (begun_in y w event) was.runs in
           record {
@@ -210,21 +211,21 @@ module _ (fragments_step : FragmentsStep) (cores_step : CoresStep) (law : Fragme
 
     event_going : (event : Event) → KeepsOn event → GoingThen event
     event_going event keeps = record {
-      carried = life_goes_on fragments_step cores_step law y s w event steps releases (none_begins w event keeps) going.carried;
+      carried = life_goes_on fragments_step cores_step local_stores_step law y s w event steps releases (none_begins w event keeps) going.carried;
       in_step = λ none. then_in_step (going.in_step (still_powered y.runs.program w event old.machine.sound keeps none)) event keeps;
     }
 
     crash_going : GoingThen Crash
     crash_going = record {
-      carried = life_goes_on fragments_step cores_step law y s w Crash steps releases refl going.carried;
+      carried = life_goes_on fragments_step cores_step local_stores_step law y s w Crash steps releases refl going.carried;
       in_step = λ none. absurd (true≢false (sym (crash_recovers y.runs.program w) ∙ none));
     }
 
     -- another life begins in step
     begins_going : can_start w ≡ true → GoingThen Start
     begins_going may =
-        let o = event_goes_on fragments_step cores_step law y s w Start old in
-        let carried = life_begins fragments_step cores_step law y s w Start steps releases may going.carried in
+        let o = event_goes_on fragments_step cores_step local_stores_step law y s w Start old in
+        let carried = life_begins fragments_step cores_step local_stores_step law y s w Start steps releases may going.carried in
         record { carried = carried; in_step = λ none. begins_in_step y s _ _ _ carried (o.anew may) (begun_none y w steps may) }
 
     -- or nothing changes
@@ -294,7 +295,7 @@ in_step_at marks y s w account releases going none =
           (in_step.unlocked h mutex gives)) on;
     }
 
-pub machines_keep_step : MarksPass → FragmentsStep → CoresStep → FragmentsGoOn → MachinesKeepStep
-machines_keep_step marks fragments_step cores_step law y s events none =
-    let stays = all_going fragments_step cores_step law y s events _ _ _ (start_going y s) in
+pub machines_keep_step : MarksPass → FragmentsStep → CoresStep → LocalStoresStep → FragmentsGoOn → MachinesKeepStep
+machines_keep_step marks fragments_step cores_step local_stores_step law y s events none =
+    let stays = all_going fragments_step cores_step local_stores_step law y s events _ _ _ (start_going y s) in
     in_step_at marks y s _ _ stays.0 stays.1 none

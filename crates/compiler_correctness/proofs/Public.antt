@@ -4,3 +4,4 @@ pub use Rattle.compiler_correctness.proofs.BoundedDelay.{gets_on_after}
 pub use Rattle.compiler_correctness.proofs.LaterLives.{begun_state}
 pub use Rattle.compiler_correctness.proofs.MachineLockstep.{begun_after, begun_none, variables_same}
 pub use Rattle.compiler_correctness.proofs.MarksReached.{go_on_without_crash}
+pub use Rattle.compiler_correctness.proofs.NodesOfThreads.{logs_it}

@@ -4,7 +4,7 @@ use Rattle.c_tree.specs.Source.{State, is_between}
 use Rattle.machine_model.specs.Schedule.{LifeSchedules, kept_lives}
 use Rattle.thread_runs.specs.Laws.{FragmentsGoOn}
 use Rattle.crash_simulation.specs.Laws.{EventsStand, NoneIsStuck, TakesMove}
-use Rattle.crash_simulation.specs.InstructionSteps.{FragmentsStep, CoresStep}
+use Rattle.crash_simulation.specs.InstructionSteps.{FragmentsStep, CoresStep, LocalStoresStep}
 use Rattle.crash_simulation.specs.AccountRelation.{Beginning, beginning_after}
 use Rattle.crash_simulation.specs.RecoveredWords.{RecoveredAreCounted, RecoveredWordsSimulate}
 use Rattle.crash_simulation.proofs.Public.{resumed}
@@ -15,13 +15,14 @@ use Rattle.compiler_correctness.proofs.ImageWords.{stands_along}
 use Rattle.compiler_correctness.proofs.AbstractRunAccount.{kept_between, settled_variables}
 use Rattle.compiler_correctness.proofs.LaterLives.{after_since, behind_is, runs_since}
 
-pub recovered_words_run_on : NoneIsStuck → TakesMove → EventsStand → FragmentsStep → CoresStep → FragmentsGoOn → RecoveredWordsSimulate → RecoveredWordsRunOn
-recovered_words_run_on stuck takes stand fragments_step cores_step law simulate y s o image is =
+pub recovered_words_run_on : NoneIsStuck → TakesMove → EventsStand → FragmentsStep → CoresStep → LocalStoresStep → FragmentsGoOn → RecoveredWordsSimulate →
+    RecoveredWordsRunOn
+recovered_words_run_on stuck takes stand fragments_step cores_step local_stores_step law simulate y s o image is =
     let begin = (simulate y s o image.words is).stands in
     record {
       never_stuck = λ events h cause. stuck y s _ (stands_along stand y s events _ begin) h cause;
       takes = λ events h i. takes y s _ h (stands_along stand y s events _ begin) i;
-      delays = λ events more h. delays fragments_step cores_step law y s h _ (stands_along stand y s events _ begin) more;
+      delays = λ events more h. delays fragments_step cores_step local_stores_step law y s h _ (stands_along stand y s events _ begin) more;
     }
 
 pub recovered_words_settle : RecoveredAreCounted → RecoveredWordsSettle

@@ -34,7 +34,7 @@ use Rattle.region_attempts.specs.Origins.{Origin}
 use Rattle.crash_simulation.specs.Systems.{System, IsSystem, flat_of, thread_count}
 use Rattle.crash_simulation.specs.SimulationRelation.{Simulates}
 use Rattle.crash_simulation.specs.AccountRelation.{Beginning, SimulatesLives, beginning_after, first_beginning, next_beginning}
-use Rattle.crash_simulation.specs.InstructionSteps.{FragmentsStep, CoresStep}
+use Rattle.crash_simulation.specs.InstructionSteps.{FragmentsStep, CoresStep, LocalStoresStep}
 use Rattle.crash_simulation.specs.InstructionSteps.{is_leaving}
 use Rattle.crash_simulation.specs.RecoveredWords.{IsRecoveredFrom, RecoveredAreCounted}
 use Rattle.crash_simulation.specs.ReleasedSections.{IsReleasedOf, sections_kept}
@@ -317,7 +317,7 @@ module _ (y : System) (s : IsSystem y) (o : Origin (flat_of y)) (image : Image) 
 
   -- ---- Another life begins
 
-  module _ (fragments_step : FragmentsStep) (cores_step : CoresStep) (law : FragmentsGoOn) where
+  module _ (fragments_step : FragmentsStep) (cores_step : CoresStep) (local_stores_step : LocalStoresStep) (law : FragmentsGoOn) where
     no_lives : z0.lives ≡ []
     no_lives =
         let long = more_earlier y g0 z0.lives in
@@ -340,7 +340,7 @@ module _ (y : System) (s : IsSystem y) (o : Origin (flat_of y)) (image : Image) 
       r1 = released_by y.runs.program w0 Start releases
 
       abbrev z1 : SimulatesLives y s g0 v s1 r1
-      z1 = life_begins fragments_step cores_step law y s w0 Start s0 releases may z0
+      z1 = life_begins fragments_step cores_step local_stores_step law y s w0 Start s0 releases may z0
 
       abbrev first : Beginning
       first = first_beginning y
@@ -349,7 +349,7 @@ module _ (y : System) (s : IsSystem y) (o : Origin (flat_of y)) (image : Image) 
       x = flat_of y
 
       abbrev then_stands : Simulates y s v
-      then_stands = (event_goes_on fragments_step cores_step law y s w0 Start stands).next
+      then_stands = (event_goes_on fragments_step cores_step local_stores_step law y s w0 Start stands).next
 
       lives_then : z1.lives ≡ [] ∷ []
       lives_then = ap₂ (λ (lives : List (List ℕ)) (schedule : List ℕ). lives ++ schedule ∷ []) no_lives no_schedule
@@ -396,7 +396,7 @@ module _ (y : System) (s : IsSystem y) (o : Origin (flat_of y)) (image : Image) 
       -- whatever was counted of releases before
       goes_then : (r : ℕ → ℕ) → Going y s v s1 (released_by y.runs.program w0 Start r)
       goes_then r =
-          let o = event_goes_on fragments_step cores_step law y s w0 Start stands in
+          let o = event_goes_on fragments_step cores_step local_stores_step law y s w0 Start stands in
           subst (λ (counts : ℕ → ℕ). Going y s v s1 counts) (same_releases r)
           (record { carried = carried; in_step = λ none. begins_in_step y s v s1 r1 carried (o.anew may) (begun_none y w0 s0 may) })
 
@@ -424,7 +424,7 @@ module _ (y : System) (s : IsSystem y) (o : Origin (flat_of y)) (image : Image) 
     next_event event w steps r (idles here same) =
         coe 0 1 (i. CarriesOn (after_event y.runs.program ((sym here) i) event) (steps_after y.runs.marks y.runs.program ((sym here) i) event ((sym same) i))
         (released_by y.runs.program ((sym here) i) event r)) (first_event event r)
-    next_event event w steps r (goes going) = goes (each_going fragments_step cores_step law y s w steps r going event)
+    next_event event w steps r (goes going) = goes (each_going fragments_step cores_step local_stores_step law y s w steps r going event)
 
     along : (events : List Event) (w : World) (steps : Steps) (r : ℕ → ℕ) → CarriesOn w steps r →
         CarriesOn (after_events y.runs.program w events) (steps_along y.runs.marks y.runs.program w events steps)
@@ -522,21 +522,21 @@ module _ (y : System) (s : IsSystem y) (o : Origin (flat_of y)) (image : Image) 
           subst (AreSectionsWithin (r h))
           (ap₂ (λ (state : State) (schedule : List ℕ). ended_from state schedule h) (begins_at y s w steps z) (sym (schedule_is y s w steps z))) near
 
-pub settled_images_go_on : RecoveredAreCounted → MarksPass → FragmentsStep → CoresStep → FragmentsGoOn → SettledImagesGoOn
-settled_images_go_on counted marks fragments_step cores_step law y s o image from settled events =
+pub settled_images_go_on : RecoveredAreCounted → MarksPass → FragmentsStep → CoresStep → LocalStoresStep → FragmentsGoOn → SettledImagesGoOn
+settled_images_go_on counted marks fragments_step cores_step local_stores_step law y s o image from settled events =
     let c = translation_of y in
     let w = world_from c image events in
     let account = steps_from c image events in
     let r = λ (n : ℕ). released_count y.runs.program (first_from c image) events n in
-    let carries = along y s o image from settled counted fragments_step cores_step law events _ _ (λ n. 0) (idles refl refl) in
+    let carries = along y s o image from settled counted fragments_step cores_step local_stores_step law events _ _ (λ n. 0) (idles refl refl) in
     record {
-      in_step = in_step y s o image from settled counted fragments_step cores_step law marks w account r carries;
-      records = records y s o image from settled counted fragments_step cores_step law marks w account r carries;
+      in_step = in_step y s o image from settled counted fragments_step cores_step local_stores_step law marks w account r carries;
+      records = records y s o image from settled counted fragments_step cores_step local_stores_step law marks w account r carries;
       resumed = record {
-        runs = runs y s o image from settled counted fragments_step cores_step law marks w account r carries;
+        runs = runs y s o image from settled counted fragments_step cores_step local_stores_step law marks w account r carries;
         grows = along_lives y.runs.marks y.runs.program events (first_from c image) (first_steps image.kept);
-        between = between y s o image from settled counted fragments_step cores_step law marks w account r carries;
-        variables = variables y s o image from settled counted fragments_step cores_step law marks w account r carries;
+        between = between y s o image from settled counted fragments_step cores_step local_stores_step law marks w account r carries;
+        variables = variables y s o image from settled counted fragments_step cores_step local_stores_step law marks w account r carries;
       };
-      sections = sections y s o image from settled counted fragments_step cores_step law marks w account r carries;
+      sections = sections y s o image from settled counted fragments_step cores_step local_stores_step law marks w account r carries;
     }

@@ -7,6 +7,7 @@ use Rattle.machine_events.specs.declared.event.Reply.{Reply}
 use Rattle.machine_events.specs.declared.event.Reply.TheVariants.{Moved, Drained, Waits, Barrier, Still, Stuck, Device}
 use Rattle.rv64_isa.specs.declared.object.Slot.{Slot}
 use Rattle.rv64_isa.specs.Programs.{code_of}
+use Rattle.boundary_code.specs.Boundaries.{frame_lines}
 use Rattle.machine_model.specs.declared.phase.Phase.TheVariants.{Run}
 use Rattle.machine_model.specs.Executables.{Executable}
 use Rattle.machine_model.specs.Machine.{Hart, World, after_event, has_stopped, reply_to}
@@ -64,9 +65,10 @@ abbrev pub GetsOnAmong : Executable → World → List Event → (h : ℕ) → T
 GetsOnAmong runs w [] h = ⊥
 GetsOnAmong runs w (event ∷ events) h = GetsOnBy runs w event h ⊎ GetsOnAmong runs (after_event runs.program w event) events h
 
--- the steps within which a hart begins one of its thread, or stops: twice the words of its code, and 18
+-- the steps within which a hart begins one of its thread, or stops: twice the words of its code, and 18, and where locals stand in the log one more for each
+-- line in which they do
 abbrev pub delay : Translation → (h : ℕ) → ℕ
-delay c h = 2 * length (code_of c.runs.program h) + 18
+delay c h = 2 * length (code_of c.runs.program h) + 18 + length (frame_lines c.runs.log true)
 
 -- From the world on delays are bounded, whatever other harts do, whatever is evicted, and whichever lives begin, as long as power stays on: by one of any so
 -- many such steps the hart begins one of its thread, or stops. A life that begins finds each hart stopped.

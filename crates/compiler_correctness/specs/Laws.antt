@@ -2,8 +2,8 @@
 use Rattle.std.specs.Prelude.{◌≡◌, List, false}
 use Rattle.machine_events.specs.declared.event.Event.{Event}
 use Rattle.flow_graph.specs.Lowering.{lowered}
-use Rattle.flow_graph.specs.IdempotentCuts.{IsMinimal}
-use Rattle.region_cutter.specs.FewestCuts.{AreFewestCuts}
+use Rattle.log_schemes.specs.Schemes.{locals_of}
+use Rattle.region_cutter.specs.BoundaryPlaces.{AreBoundariesFor}
 use Rattle.region_attempts.specs.Origins.{Origin}
 use Rattle.crash_simulation.specs.Systems.{System, IsSystem, flat_of}
 use Rattle.crash_simulation.specs.RecoveredWords.{IsRecoveredFrom}
@@ -49,10 +49,13 @@ abbrev pub MachinesKeepStep : Type 0
 MachinesKeepStep = (y : System) → IsSystem y → (events : List Event) → (world (translation_of y) events).recovering ≡ false →
     IsInStep (translation_of y) (world (translation_of y) events) (steps (translation_of y) events)
 
--- compiled code has its form, where no boundary that stands by choice can be taken away, and in straight code they are the fewest
+-- the system's boundaries are those for where its locals stand
+abbrev pub AreItsBoundaries : System → Type 0
+AreItsBoundaries y = AreBoundariesFor (locals_of y.runs.log) (lowered (flat_of y)) y.plan.held y.plan.boundaries
+
+-- compiled code has its form, where its boundaries are those
 abbrev pub CompiledCodeHasForm : Type 0
-CompiledCodeHasForm = (y : System) → IsSystem y → IsMinimal (lowered (flat_of y)) y.plan.boundaries →
-    AreFewestCuts (lowered (flat_of y)) y.plan.boundaries → HasForm (translation_of y)
+CompiledCodeHasForm = (y : System) → IsSystem y → AreItsBoundaries y → HasForm (translation_of y)
 
 -- a run is begun from an image as after the crash that left it
 abbrev pub ImagesAreCrashes : Type 0
@@ -89,7 +92,6 @@ abbrev pub FilesAreResumed : Type 0
 FilesAreResumed = (y : System) → IsSystem y → (before events : List Event) →
     IsResumedAsKept (translation_of y) (image_in (translation_of y) (file_of (translation_of y) (image_of (translation_of y) before))) events
 
--- a system of which no boundary that stands by choice can be taken away, and in straight code they are the fewest, is a compilation
+-- a system with the boundaries for where its locals stand is a compilation
 abbrev pub SystemsAreCompilations : Type 0
-SystemsAreCompilations = (y : System) → IsSystem y → IsMinimal (lowered (flat_of y)) y.plan.boundaries →
-    AreFewestCuts (lowered (flat_of y)) y.plan.boundaries → IsCompilation (translation_of y)
+SystemsAreCompilations = (y : System) → IsSystem y → AreItsBoundaries y → IsCompilation (translation_of y)

@@ -5,9 +5,9 @@ ghost use Rattle.compiler_correctness.specs.Laws.{MachinesRecord, RecoveredWords
 ghost use Rattle.compiler_correctness.specs.Laws.{SettledImagesGoOn, SystemsAreCompilations, WordsBetweenStay};
 
 use crash_simulation::laws::{
-    cores_step, events_stand, fragments_step, machines_resume, none_is_stuck as simulating_is_free,
-    recovered_are_counted, recovered_words_simulate, sections_are_kept as ended_sections_are_kept,
-    sections_end_at_points,
+    cores_step, events_stand, fragments_step, local_stores_step, machines_resume,
+    none_is_stuck as simulating_is_free, recovered_are_counted, recovered_words_simulate,
+    sections_are_kept as ended_sections_are_kept, sections_end_at_points,
 };
 use region_cutter::laws::chosen_boundaries_are_locked;
 use thread_runs::laws::{fragments_go_on, marks_pass};
@@ -60,12 +60,13 @@ pub fn harts_never_stick()
 }
 
 /// A hart that executes instructions soon begins the next step of its thread, or stops: among as many of its steps that wait for no lock as twice the words of
-/// its code, and 18, is one by which it begins one or after which it has stopped, whatever other harts do, whatever is evicted and whichever lives begin in
-/// between, as long as power stays on.
+/// its code, and 18, and where locals stand in the log one more for each line in which they do, is one by which it begins one or after which it has stopped,
+/// whatever other harts do, whatever is evicted and whichever lives begin in between, as long as power stays on.
 pub fn delays_are_bounded()
     ensures { DelaysAreBounded }
 {
     cores_step();
+    local_stores_step();
     events_stand();
     fragments_go_on();
     fragments_step();
@@ -77,14 +78,16 @@ pub fn machines_keep_step()
     ensures { MachinesKeepStep }
 {
     cores_step();
+    local_stores_step();
     marks_pass();
     fragments_go_on();
     fragments_step();
 }
 
 /// The code of each thread is that of its nodes, one after another: within its price, with a mark for each node, two FENCEs for each boundary and no other
-/// FENCE, and resumed nowhere but after boundaries. Boundaries stand where the graph is cut, by choice only where a mutex is held, none of those can be
-/// taken away, and in straight code they are the fewest; the last two are asked here since systems don't say them.
+/// FENCE, and resumed nowhere but after boundaries. Boundaries stand where the graph is cut, by choice only where a mutex is held. Where locals stand in
+/// registers none of those can be taken away, and in straight code they are the fewest; where they stand in the log each write of a section has one before it
+/// that records it. That they stand so is asked here since systems don't say it.
 pub fn compiled_code_has_form()
     ensures { CompiledCodeHasForm }
 {
@@ -108,11 +111,12 @@ pub fn images_are_resumed()
 
 /// A machine that begins with words whose records describe a state of the source runs on, whoever left them and whether a run reaches that state or not:
 /// no hart is ever stuck, none that takes its locks in recovery waits for one, and one that waits for no lock begins its next step, or has stopped, within
-/// twice its code's words and 18 of its steps while power stays on.
+/// as many of its steps as `delays_are_bounded` says, while power stays on.
 pub fn recovered_words_run_on()
     ensures { RecoveredWordsRunOn }
 {
     cores_step();
+    local_stores_step();
     events_stand();
     fragments_go_on();
     simulating_is_free();
@@ -136,6 +140,7 @@ pub fn settled_images_go_on()
     ensures { SettledImagesGoOn }
 {
     cores_step();
+    local_stores_step();
     marks_pass();
     fragments_go_on();
     recovered_are_counted();
@@ -147,6 +152,7 @@ pub fn words_between_stay()
     ensures { WordsBetweenStay }
 {
     cores_step();
+    local_stores_step();
     events_stand();
     fragments_step();
 }
@@ -168,8 +174,7 @@ pub fn files_are_resumed()
     images_are_resumed();
 }
 
-/// What a compiler makes of a flat form, if it is a system, has no boundary that can be taken away and has the fewest in straight code, is a compilation:
-/// all of the above holds of it.
+/// What a compiler makes of a flat form, if it is a system with the boundaries for where its locals stand, is a compilation: all of the above holds of it.
 /// It is a clause of `ido_compile::compile`.
 pub fn systems_are_compilations()
     ensures { SystemsAreCompilations }

@@ -13,7 +13,8 @@ use Rattle.ido_base.specs.Layout.{word_number}
 use Rattle.log_schemes.specs.Layout.{point_at}
 use Rattle.rv64_isa.specs.declared.object.Slot.{Slot}
 use Rattle.machine_model.specs.Machine.{World, after_event}
-use Rattle.machine_model.specs.Schedule.{KeepsOn, PendingStep, Steps, harts_of, with_begun, then_stored, with_stored, is_durable, with_kept, with_all_kept, with_step}
+use Rattle.machine_model.specs.Schedule.{KeepsOn, PendingStep, Steps, harts_of, with_begun, then_stored, with_stored}
+use Rattle.machine_model.specs.Schedule.{is_durable, with_kept, with_all_kept, with_step}
 use Rattle.machine_model.specs.Schedule.{steps_after, steps_along, passes_mark, stores_point}
 use Rattle.machine_model.proofs.Public.{length_parts}
 use Rattle.compiler_correctness.specs.Translations.{GoOn}

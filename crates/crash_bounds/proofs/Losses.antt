@@ -7,17 +7,19 @@ use Rattle.std.proofs.lemmas.Bool.{cases_lt}
 use Rattle.c_tree.specs.Source.{State, runs_from}
 use Rattle.source_machine.specs.StepExchanges.{steps_of}
 use Rattle.source_machine.proofs.Public.{solo as solo_law}
-use Rattle.flow_graph.specs.Nodes.{Graph}
+use Rattle.c_tree.specs.Exprs.{LockName}
+use Rattle.flow_graph.specs.Nodes.{Graph, Lock, Node}
 use Rattle.flow_graph.specs.Lowering.{lowered, threads_nodes}
 use Rattle.flow_graph.specs.Actions.{GraphThread}
 use Rattle.flow_graph.specs.Lockstep.{Matches}
 use Rattle.flow_graph.specs.Liveness.{NodeAt}
-use Rattle.flow_graph.specs.IdempotentCuts.{IsUnlock, unlocks, HasBefore, AreAtWrites, Writes}
+use Rattle.flow_graph.specs.IdempotentCuts.{IsUnlock, unlocks, HasBefore, Writes}
 use Rattle.flow_graph.proofs.Public.{node_shaped, nodes_at}
 use Rattle.recovery_semantics.specs.Attempts.{solo, IsInnerStep, PassesMutex}
 use Rattle.recovery_semantics.specs.Configs.{Config, AreBegun, attempt_of}
 use Rattle.region_attempts.specs.GraphStates.{node_after, flow_solo}
-use Rattle.region_attempts.proofs.Public.{is_there, locking_at, unlocking_at, writing_stores}
+use Rattle.region_attempts.proofs.Public.{IsThere, is_there, locking_at, unlocking_at, writing_stores}
+use Rattle.thread_code.specs.Plans.{IsLoggedAt}
 use Rattle.crash_simulation.specs.Systems.{System, IsSystem, flat_of}
 use Rattle.crash_simulation.specs.AbstractRuns.{AbstractRun, kept_of}
 use Rattle.crash_simulation.specs.AccountRelation.{MachinesResume}
@@ -32,9 +34,6 @@ use Rattle.crash_bounds.specs.Losses.{CrashesUndoOneStretch, kept_state, undone}
 module _ (y : System) (s : IsSystem y) (b : AbstractRun y) (thread : ℕ) where
   abbrev m : Config
   m = b.config
-
-  at_writes : AreAtWrites (lowered (flat_of y)) y.plan.boundaries
-  at_writes = subst (λ (g : Graph). AreAtWrites g y.plan.boundaries) s.plan.lowered s.plan.at_writes
 
   record StandsAt (steps node : ℕ) : Type 0 where
     graph_thread : GraphThread
@@ -53,36 +52,43 @@ module _ (y : System) (s : IsSystem y) (b : AbstractRun y) (thread : ℕ) where
 
   is_unlock : (steps node : ℕ) → node_after (flat_of y) (kept_of y b) thread steps ≡ Some node → HasBefore y.plan.boundaries node →
       (mutex : ℕ) × PassesMutex (solo m.kept thread steps) thread mutex → IsUnlock (lowered (flat_of y)) node
-  is_unlock steps node is has (mutex, passes) = by (at_writes.before node has)
+  is_unlock steps node is has (mutex, passes) = by (s.plan.at_writes.before node has)
     where
       stands : StandsAt steps node
       stands = stands_at steps node is
 
-      by_write : (w : Writes (lowered (flat_of y)) node) → PassesMutex (solo m.kept thread steps) thread mutex → IsUnlock (lowered (flat_of y)) node
-      by_write w passes = by_passing passes
+      -- at a node that takes no lock
+      by_node : (x : Node) → NodeAt (lowered (flat_of y)) node x → ((lock : LockName) (next : ℕ) → x.action ≡ Lock lock next → ⊥) →
+          PassesMutex (solo m.kept thread steps) thread mutex → IsUnlock (lowered (flat_of y)) node
+      by_node x at free passed = by_passing passed
         where
-          at : NodeAt (lowered (flat_of y)) stands.graph_thread.at w.is
-          at = subst (λ (n : ℕ). NodeAt (lowered (flat_of y)) n w.is) (sym stands.at) w.at
+          there : IsThere (flat_of y) (solo m.kept thread steps) thread stands.graph_thread x
+          there =
+              is_there (flat_of y) s.plan.formed thread (flow_solo (flat_of y) (kept_of y b) thread steps) (solo m.kept thread steps)
+              ((as_source y s b).solo_matches thread steps) stands.graph_thread x stands.found
+              (subst (λ (n : ℕ). NodeAt (lowered (flat_of y)) n x) (sym stands.at) at)
 
           by_passing : PassesMutex (solo m.kept thread steps) thread mutex → IsUnlock (lowered (flat_of y)) node
           by_passing (inl locks) =
-              let there = is_there (flat_of y) s.plan.formed thread (flow_solo (flat_of y) (kept_of y b) thread steps) (solo m.kept thread steps)
-              ((as_source y s b).solo_matches thread steps) stands.graph_thread w.is stands.found at in
-              let action = locking_at (flat_of y) (solo m.kept thread steps) thread stands.graph_thread w.is there mutex locks in
-              let stores = writing_stores (threads_nodes (flat_of y) (flat_of y).threads 0) w.is w.is.action w.written
-              (node_shaped (flat_of y) node w.is (nodes_at (flat_of y) node w.is w.at)) w.writes in
-              let locked = action.2 in
-              let stored = stores.is in
-              absurd (cc)
+              let action = locking_at (flat_of y) (solo m.kept thread steps) thread stands.graph_thread x there mutex locks in
+              absurd (free action.0 action.1 action.2)
           by_passing (inr unlocks_it) =
-              let there = is_there (flat_of y) s.plan.formed thread (flow_solo (flat_of y) (kept_of y b) thread steps) (solo m.kept thread steps)
-              ((as_source y s b).solo_matches thread steps) stands.graph_thread w.is stands.found at in
-              let action = unlocking_at (flat_of y) (solo m.kept thread steps) thread stands.graph_thread w.is there mutex unlocks_it in
-              unlocks w.is action.0 action.1 w.at action.2
+              let action = unlocking_at (flat_of y) (solo m.kept thread steps) thread stands.graph_thread x there mutex unlocks_it in
+              unlocks x action.0 action.1 at action.2
 
-      by : IsUnlock (lowered (flat_of y)) node ⊎ Writes (lowered (flat_of y)) node → IsUnlock (lowered (flat_of y)) node
-      by (inl unlock) = unlock
-      by (inr w) = by_write w passes
+      lowered_at : (x : Node) → NodeAt y.plan.graph node x → NodeAt (lowered (flat_of y)) node x
+      lowered_at x at = subst (λ (g : Graph). NodeAt g node x) s.plan.lowered at
+
+      by : IsUnlock y.plan.graph node ⊎ Writes y.plan.graph node ⊎ IsLoggedAt y.plan node → IsUnlock (lowered (flat_of y)) node
+      by (inl unlock) = subst (λ (g : Graph). IsUnlock g node) s.plan.lowered unlock
+      by (inr (inl w)) =
+          let at = lowered_at w.is w.at in
+          let stores = writing_stores (threads_nodes (flat_of y) (flat_of y).threads 0) w.is w.is.action w.written
+          (node_shaped (flat_of y) node w.is (nodes_at (flat_of y) node w.is at)) w.writes in
+          by_node w.is at (λ lock next locked. (let stored = stores.is in cc)) passes
+      by (inr (inr z)) =
+          let assigns = z.logged.assigns in
+          by_node assigns.is (lowered_at assigns.is assigns.at) (λ lock next locked. (let assigned = assigns.action in cc)) passes
 
   -- ---- The stretch
 

@@ -24,9 +24,10 @@ pub fn recovery_is_entered()
 {}
 
 /// Whatever has happened, and as long as the life goes on: until a hart begins a step of its thread it makes no more enabled steps than its delay, which is
-/// twice the words of its code and 18, and as many again for each step that it begins; and where there was a crash in this life as many more as a record has
-/// locks at most, and 3. All of them make no more than a number that `step_bound` computes of the steps of the source that begin. So where every run of the
-/// source from the kept state ends within so many steps, each run of enabled steps alone ends within a number that it computes of that.
+/// twice the words of its code and 18, and where locals stand in the log 3 more; and as many again for each step that it begins; and where there was a crash in
+/// this life as many more as a record has locks at most, and 3. All of them make no more than a number that `step_bound` computes of the steps of the source
+/// that begin. So where every run of the source from the kept state ends within so many steps, each run of enabled steps alone ends within a number that it
+/// computes of that.
 pub fn machines_get_on()
     ensures hart { HartsGetOn }
     ensures machine { MachinesGetOn }

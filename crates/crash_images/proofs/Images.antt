@@ -16,13 +16,13 @@ use Rattle.file_fields.proofs.Public.{IsBytes, bind_ok, test_ok, ok_is, Takes, t
 use Rattle.file_fields.proofs.Public.{word_takes, word_again, within_takes, within_again, magic_takes, magic_again, version_takes, version_again}
 use Rattle.file_fields.proofs.Public.{repeated_take, repeated_again}
 use Rattle.run_scripts.specs.Runs.{Run}
-use Rattle.crash_images.specs.Contents.{Contents, State, AreVariables, IsState, IsLife, IsRun, Tells, number_of, word_bytes, words_of}
+use Rattle.crash_images.specs.Contents.{Contents, State, AreCounted, AreVariables, IsState, IsLife, IsRun, Tells, number_of, word_bytes, words_of}
 use Rattle.crash_images.specs.ImageEncoder.{magic, count_text, lives_text, logs_text, run_text, runs_text, source_text, state_text, spelling, variables_text}
 use Rattle.crash_images.specs.ImageDecoder.{count_at, known, life_at, lives_at, logs_at, run_at, source_at}
 use Rattle.crash_images.specs.ImageDecoder.{size_at, state_at, image_at, variables_at, version_in}
 use Rattle.crash_images.specs.declared.version.TheConstants.{MOST_LIVES}
 use Rattle.crash_images.specs.declared.version.ImageVersion.{ImageVersion}
-use Rattle.crash_images.specs.declared.version.ImageVersion.TheVariants.{First, Second, Third}
+use Rattle.crash_images.specs.declared.version.ImageVersion.TheVariants.{First, Second, Third, Fourth}
 use Rattle.crash_images.specs.declared.state.State as code
 use Rattle.crash_images.specs.links.Views.{state_of}
 
@@ -32,15 +32,22 @@ is_number : (version : ImageVersion) → IsNumber (number_of version)
 is_number First = omega arith
 is_number Second = omega arith
 is_number Third = omega arith
+is_number Fourth = omega arith
 
 known_again : (newest version : ImageVersion) → number_of version ≤ number_of newest → known newest (number_of version) ≡ Ok version
 known_again newest First le = refl
 known_again First Second le = absurd (omega (arith, le))
 known_again Second Second le = refl
 known_again Third Second le = refl
+known_again Fourth Second le = refl
 known_again First Third le = absurd (omega (arith, le))
 known_again Second Third le = absurd (omega (arith, le))
 known_again Third Third le = refl
+known_again Fourth Third le = refl
+known_again First Fourth le = absurd (omega (arith, le))
+known_again Second Fourth le = absurd (omega (arith, le))
+known_again Third Fourth le = absurd (omega (arith, le))
+known_again Fourth Fourth le = refl
 
 pub version_is_again : (newest version : ImageVersion) (rest : List ℕ) → number_of version ≤ number_of newest →
     version_in newest (magic ++ number (number_of version) ++ rest) ≡ Ok version
@@ -200,6 +207,15 @@ life_again total runs rest good =
     ∙ rw (number_again total (length runs) (flat_map run_text runs ++ rest) good.0)
     (repeated_again run_text IsRun (run_at total) (run_again total) runs rest good.1)
 
+counted : (total : ℕ) (bytes : List ℕ) (x : ℕ × List ℕ) → IsBytes bytes → number_within total 1 MOST_LIVES bytes ≡ Ok x →
+    Takes bytes (number x.0) x.1 × AreCounted x.0
+counted total bytes x fits e =
+    let t = within_takes total 1 MOST_LIVES bytes x fits e in
+    (t.0, (t.1, omega (arith, t.2)))
+
+counted_again : (total n : ℕ) (rest : List ℕ) → AreCounted n → number_within total 1 MOST_LIVES (number n ++ rest) ≡ Ok (n, rest)
+counted_again total n rest told = within_again total 1 MOST_LIVES n rest told.0 (omega (arith, told.1)) told.1
+
 count_takes : (version : ImageVersion) (total : ℕ) (bytes : List ℕ) (x : ℕ × List ℕ) → IsBytes bytes → count_at version total bytes ≡ Ok x →
     Takes bytes (count_text version x.0) x.1 × Tells version x.0
 count_takes First total bytes x fits e =
@@ -208,14 +224,14 @@ count_takes First total bytes x fits e =
 count_takes Second total bytes x fits e =
     subst (λ (y : ℕ × List ℕ). Takes bytes (count_text Second y.0) y.1 × Tells Second y.0) (ok_is (1, bytes) x e)
     (record { parts = refl; rest_fits = fits }, refl)
-count_takes Third total bytes x fits e =
-    let t = within_takes total 1 MOST_LIVES bytes x fits e in
-    (t.0, (t.1, omega (arith, t.2)))
+count_takes Third total bytes x fits e = counted total bytes x fits e
+count_takes Fourth total bytes x fits e = counted total bytes x fits e
 
 count_again : (version : ImageVersion) (total n : ℕ) (rest : List ℕ) → Tells version n → count_at version total (count_text version n ++ rest) ≡ Ok (n, rest)
 count_again First total n rest told = ap (λ m. Ok (m, rest)) (sym told)
 count_again Second total n rest told = ap (λ m. Ok (m, rest)) (sym told)
-count_again Third total n rest told = within_again total 1 MOST_LIVES n rest told.0 (omega (arith, told.1)) told.1
+count_again Third total n rest told = counted_again total n rest told
+count_again Fourth total n rest told = counted_again total n rest told
 
 record AreLives (version : ImageVersion) (bytes : List ℕ) (lives : List (List Run)) : Type 0 where
   parts : bytes ≡ lives_text version lives

@@ -1,10 +1,10 @@
 -- What the definitions compute.
-use Rattle.std.specs.Prelude.{◌≡◌, ℕ, List, [], ◌∷◌, ◌++◌, take, drop, refl, Ok, Err}
+use Rattle.std.specs.Prelude.{◌≡◌, ℕ, List, [], ◌∷◌, ◌++◌, length, replicate, take, drop, refl, Ok, Err}
 use Rattle.file_fields.specs.Fields.{Magic, Version, Cut, Field, Rest, number_at, word_at, number_within, repeated, magic_at, version_at}
 use Rattle.crash_images.specs.Contents.{Contents, contents}
 use Rattle.crash_images.specs.ImageEncoder.{spelling}
 use Rattle.crash_images.specs.ImageDecoder.{life_at, lives_at, logs_at, run_at, source_at, size_at, state_at, image_at, variables_at, version_in}
-use Rattle.crash_images.specs.declared.version.ImageVersion.TheVariants.{First, Second, Third}
+use Rattle.crash_images.specs.declared.version.ImageVersion.TheVariants.{First, Second, Third, Fourth}
 
 -- the source `x`, one word of variables, no log, and three steps
 small : Contents
@@ -70,6 +70,32 @@ cut_before_the_last_life : state_at Third 37 8 0 (memory_bytes ++ 2 ∷ 0 ∷ 0 
 unfolding memory_bytes state_at variables_at logs_at lives_at life_at size_at number_within repeated run_at word_at number_at
 cut_before_the_last_life = refl
 
+fourth_head : List ℕ
+fourth_head = take 8 head_bytes ++ 4 ∷ 0 ∷ 0 ∷ 0 ∷ []
+
+-- version 4 spells lives as version 3 does
+logged_spelled : spelling Fourth lived ≡ fourth_head ++ source_bytes ++ memory_bytes ++ lives_bytes
+unfolding lived head_bytes fourth_head source_bytes memory_bytes lives_bytes
+logged_spelled = refl
+
+logged_read : image_at Fourth 8 0 (fourth_head ++ source_bytes ++ memory_bytes ++ lives_bytes) ≡ Ok lived
+unfolding lived head_bytes fourth_head source_bytes memory_bytes lives_bytes image_at source_at state_at variables_at logs_at lives_at life_at size_at
+    number_within magic_at version_at
+    repeated run_at word_at number_at
+logged_read = refl
+
+-- of 78 bytes of source, one word of variables, one thread, and one life of no step: a log has 2,048 bytes
+logged_length : length (spelling Fourth (contents (replicate 78 0x20) (5 ∷ []) (replicate 256 0) ([] ∷ []))) ≡ 2162
+logged_length = refl
+
+-- a byte of source more, and steps of that thread: a run
+logged_longer : length (spelling Fourth (contents (replicate 79 0x20) (5 ∷ []) (replicate 256 0) ((0 ∷ 0 ∷ 0 ∷ []) ∷ []))) ≡ 2171
+logged_longer = refl
+
+no_life_logged : state_at Fourth 34 8 0 (memory_bytes ++ 0 ∷ 0 ∷ 0 ∷ 0 ∷ 0 ∷ []) ≡ Err (Field 29)
+unfolding memory_bytes state_at variables_at logs_at lives_at life_at size_at number_within repeated run_at word_at number_at
+no_life_logged = refl
+
 -- ---- Versions
 
 newest : version_in Third third_head ≡ Ok Third
@@ -83,6 +109,22 @@ too_new = refl
 version_two : version_in Third (take 8 head_bytes ++ 2 ∷ 0 ∷ 0 ∷ 0 ∷ []) ≡ Ok Second
 unfolding head_bytes version_in magic_at number_at
 version_two = refl
+
+newest_of_all : version_in Fourth fourth_head ≡ Ok Fourth
+unfolding head_bytes fourth_head version_in magic_at number_at
+newest_of_all = refl
+
+older_than_newest : version_in Fourth third_head ≡ Ok Third
+unfolding third_head version_in magic_at number_at
+older_than_newest = refl
+
+newer_than_newest : version_in Third fourth_head ≡ Err Version
+unfolding head_bytes fourth_head version_in magic_at number_at
+newer_than_newest = refl
+
+newer_than_all : version_in Fourth (take 8 head_bytes ++ 5 ∷ 0 ∷ 0 ∷ 0 ∷ []) ≡ Err Version
+unfolding head_bytes version_in magic_at number_at
+newer_than_all = refl
 
 none_of_them : version_in Third (take 8 head_bytes ++ 0 ∷ 1 ∷ 0 ∷ 0 ∷ []) ≡ Err Version
 unfolding head_bytes version_in magic_at number_at
@@ -135,3 +177,8 @@ cut_inside_a_log = refl
 one_byte_more : state_at First 50 8 0 (state_bytes ++ 0 ∷ []) ≡ Err (Rest 49)
 unfolding state_bytes state_at variables_at logs_at lives_at life_at size_at number_within repeated run_at word_at number_at
 one_byte_more = refl
+
+-- a log has 2,048 bytes
+cut_inside_a_longer_log : state_at Fourth 1053 8 1 (memory_bytes ++ replicate 1024 0) ≡ Err (Cut 1053)
+unfolding memory_bytes state_at variables_at logs_at lives_at life_at size_at number_within repeated run_at word_at number_at
+cut_inside_a_longer_log = refl

@@ -24,7 +24,7 @@ use Rattle.crash_images.specs.Contents.{contents, IsState, IsLife, IsRun, Tells,
 use Rattle.crash_images.specs.ImageEncoder.{magic, count_text, lives_text, memory_text, run_text, runs_text, source_text, state_text, spelling}
 use Rattle.crash_images.specs.ImageDecoder.{image_at, IsReadAs}
 use Rattle.crash_images.specs.declared.version.ImageVersion.{ImageVersion}
-use Rattle.crash_images.specs.declared.version.ImageVersion.TheVariants.{First, Second, Third}
+use Rattle.crash_images.specs.declared.version.ImageVersion.TheVariants.{First, Second, Third, Fourth}
 use Rattle.crash_images.specs.links.Views.{written_life}
 use Rattle.crash_images.specs.links.WrittenLives.{AreWritten, written_contents}
 use Rattle.crash_images.proofs.Images.{image_again}
@@ -192,6 +192,7 @@ count_length : (version : ImageVersion) (n : ℕ) → length (count_text version
 count_length First n = omega arith
 count_length Second n = omega arith
 count_length Third n = omega arith
+count_length Fourth n = omega arith
 
 logs_fit : (log : Log) → most_logs log ≤ 2048
 logs_fit log = by (size_of log)

@@ -3,12 +3,12 @@ use Rattle.std.specs.Prelude.{◌≡◌, ℕ, ◌*◌, ◌≤◌, List, length, 
 use Rattle.std.specs.List.{AllByRecursion}
 use Rattle.ido_base.specs.declared.limits.TheConstants.{MOST_THREADS, WORD_BYTES}
 use Rattle.log_schemes.specs.declared.log.Log.{Log}
-use Rattle.log_schemes.specs.declared.log.Log.TheVariants.{V1, V2}
+use Rattle.log_schemes.specs.declared.log.Log.TheVariants.{V1, V2, Justdo}
 use Rattle.log_schemes.specs.Layout as layout
 use Rattle.file_fields.specs.Numbers.{IsNumber, IsWord}
 use Rattle.run_scripts.specs.Runs.{Run, runs_of}
 use Rattle.crash_images.specs.declared.version.ImageVersion.{ImageVersion}
-use Rattle.crash_images.specs.declared.version.ImageVersion.TheVariants.{First, Second, Third}
+use Rattle.crash_images.specs.declared.version.ImageVersion.TheVariants.{First, Second, Third, Fourth}
 
 -- what a crash leaves of a run of a source
 pub record State : Type 0 where
@@ -36,22 +36,30 @@ abbrev pub number_of : ImageVersion → ℕ
 number_of First = 1
 number_of Second = 2
 number_of Third = 3
+number_of Fourth = 4
 
 abbrev pub log_of : ImageVersion → Log
 log_of First = V1
 log_of Second = V2
 log_of Third = V2
+log_of Fourth = Justdo
 
 -- the version in which images of a log are written
 abbrev pub written_as : Log → ImageVersion
 written_as V1 = First
 written_as V2 = Third
+written_as Justdo = Fourth
+
+-- four bytes tell how many lives there are, at least one
+abbrev pub AreCounted : (lives : ℕ) → Type 0
+AreCounted lives = (1 ≤ lives) × IsNumber lives
 
 -- so many lives are told
 abbrev pub Tells : ImageVersion → (lives : ℕ) → Type 0
 Tells First lives = lives ≡ 1
 Tells Second lives = lives ≡ 1
-Tells Third lives = (1 ≤ lives) × IsNumber lives
+Tells Third lives = AreCounted lives
+Tells Fourth lives = AreCounted lives
 
 -- ---- Limits
 

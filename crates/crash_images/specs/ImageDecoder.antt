@@ -7,7 +7,7 @@ use Rattle.crash_images.specs.Contents.{Contents, State, number_of, word_bytes, 
 use Rattle.crash_images.specs.ImageEncoder.{magic}
 use Rattle.crash_images.specs.declared.version.TheConstants.{MOST_LIVES}
 use Rattle.crash_images.specs.declared.version.ImageVersion.{ImageVersion}
-use Rattle.crash_images.specs.declared.version.ImageVersion.TheVariants.{First, Second, Third}
+use Rattle.crash_images.specs.declared.version.ImageVersion.TheVariants.{First, Second, Third, Fourth}
 
 -- ---- The version
 
@@ -15,7 +15,7 @@ use Rattle.crash_images.specs.declared.version.ImageVersion.TheVariants.{First, 
 abbrev pub known : (newest : ImageVersion) → (number : ℕ) → Result ImageVersion Fault
 known newest n =
     if n == 1 then Ok First else if (n == 2) && nat_le 2 (number_of newest) then Ok Second
-    else if (n == 3) && nat_le 3 (number_of newest) then Ok Third else Err Version
+    else if (n == 3) && nat_le 3 (number_of newest) then Ok Third else if (n == 4) && nat_le 4 (number_of newest) then Ok Fourth else Err Version
 
 -- the version of the bytes
 unfoldable pub version_in : (newest : ImageVersion) → List ℕ → Result ImageVersion Fault
@@ -59,6 +59,7 @@ abbrev pub count_at : ImageVersion → (total : ℕ) → List ℕ → Reads ℕ
 count_at First total bytes = Ok (1, bytes)
 count_at Second total bytes = Ok (1, bytes)
 count_at Third total bytes = number_within total 1 MOST_LIVES bytes
+count_at Fourth total bytes = number_within total 1 MOST_LIVES bytes
 
 -- the lives, after which nothing stands
 unfoldable pub lives_at : ImageVersion → (total : ℕ) → List ℕ → Result (List (List Run)) Fault

@@ -4,7 +4,7 @@ use Rattle.file_fields.specs.Numbers.{number, word}
 use Rattle.run_scripts.specs.Runs.{Run}
 use Rattle.crash_images.specs.Contents.{Contents, State, number_of, word_bytes}
 use Rattle.crash_images.specs.declared.version.ImageVersion.{ImageVersion}
-use Rattle.crash_images.specs.declared.version.ImageVersion.TheVariants.{First, Second, Third}
+use Rattle.crash_images.specs.declared.version.ImageVersion.TheVariants.{First, Second, Third, Fourth}
 
 -- what stands first
 abbrev pub magic : List ℕ
@@ -23,6 +23,7 @@ abbrev pub count_text : ImageVersion → (lives : ℕ) → List ℕ
 count_text First lives = []
 count_text Second lives = []
 count_text Third lives = number lives
+count_text Fourth lives = number lives
 
 -- the runs of each life
 abbrev pub lives_text : ImageVersion → List (List Run) → List ℕ

@@ -20,7 +20,6 @@ use file_fields::reading::{
     Reader, bytes_at, magic_at, number_at, number_within, place_of, repeated, version_at, word_at,
 };
 use ido_base::limits::{MOST_SOURCE_BYTES, WORD_BYTES};
-use log_schemes::log::Log;
 use run_scripts::runs::Run;
 use std::alloc::Global;
 
@@ -150,7 +149,7 @@ fn count_at(version: ImageVersion, total: u32, bytes: &[u8]) -> Result<(u32, &[u
 {
     match version {
         ImageVersion::First | ImageVersion::Second => Ok((1, bytes)),
-        ImageVersion::Third => number_within(total, 1, MOST_LIVES, bytes),
+        ImageVersion::Third | ImageVersion::Fourth => { number_within(total, 1, MOST_LIVES, bytes) }
     }
 }
 
@@ -176,12 +175,7 @@ fn lives_at(
 fn log_words(version: ImageVersion, threads: u32) -> u64
     ensures { result ≡ words_of version * threads }
 {
-    match version {
-        ImageVersion::First => u64::from(Log::V1.words()) * u64::from(threads),
-        ImageVersion::Second | ImageVersion::Third => {
-            u64::from(Log::V2.words()) * u64::from(threads)
-        }
-    }
+    u64::from(version.log().words()) * u64::from(threads)
 }
 
 /// The version of a number, where it isn't after the newest.
@@ -196,6 +190,9 @@ fn known(newest: ImageVersion, number: u32) -> Result<ImageVersion, ReadError>
     }
     if number == 3 && newest.number() >= 3 {
         return Ok(ImageVersion::Third);
+    }
+    if number == 4 && newest.number() >= 4 {
+        return Ok(ImageVersion::Fourth);
     }
     Err(ReadError::Version)
 }
@@ -324,7 +321,7 @@ pub fn read_variables(
 
 /// What stands after the durable words of the variables, and these, of an image of a version and of so many bytes in all, whose source has so many threads.
 ///
-/// Numbers are of four bytes, little-endian: the durable words of the logs, as many for each thread as the version's log has, in version 3 the number of
+/// Numbers are of four bytes, little-endian: the durable words of the logs, as many for each thread as the version's log has, in versions 3 and 4 the number of
 /// lives, and of each life the number of runs, and of each run the thread and how many steps it took. Words are of eight bytes, little-endian.
 pub fn read_logs(
     alloc: Global,

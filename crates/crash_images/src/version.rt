@@ -16,18 +16,21 @@ pub enum ImageVersion {
     Second,
     /// Of the second log, and of one life or more.
     Third,
+    /// Of the log that keeps each write, and of one life or more.
+    Fourth,
 }
 
 impl ImageVersion {
     /// The number that stands in the file.
     pub fn number(self) -> u32
         ensures is { result ≡ number_of self }
-        ensures few { result ≤ 3 }
+        ensures few { result ≤ 4 }
     {
         match self {
             ImageVersion::First => 1,
             ImageVersion::Second => 2,
             ImageVersion::Third => 3,
+            ImageVersion::Fourth => 4,
         }
     }
 
@@ -38,6 +41,7 @@ impl ImageVersion {
         match self {
             ImageVersion::First => Log::V1,
             ImageVersion::Second | ImageVersion::Third => Log::V2,
+            ImageVersion::Fourth => Log::Justdo,
         }
     }
 }
@@ -49,5 +53,6 @@ pub fn written_as(log: Log) -> ImageVersion
     match log {
         Log::V1 => ImageVersion::First,
         Log::V2 => ImageVersion::Third,
+        Log::Justdo => ImageVersion::Fourth,
     }
 }

@@ -77,7 +77,7 @@ fn put_count(out: &mut Vec<u8>, log: Log, lives: u32) -> Result<(), OutOfMemory>
 {
     match log {
         Log::V1 => Ok(()),
-        Log::V2 => put_number(out, lives),
+        Log::V2 | Log::Justdo => put_number(out, lives),
     }
 }
 

@@ -70,9 +70,10 @@ own_last_stays program w h hart sound here none = last_stays program w h h sound
 
 -- the last position of another thread's point stays
 pub other_last_stays : (program : List (List Slot)) (w : World) (h n : ℕ) (hart : Hart) → IsWellFormedWorld w → slice_get w.harts h ≡ Some hart →
-    IsElsewhere program w h n → last_stored (after_event program w (Step h)) n ≡ last_stored w n
-other_last_stays program w h n hart sound here elsewhere = last_stays program w h n sound (λ address bytes value st same.
-    elsewhere st.executes.hart address bytes value (next_store program w h address bytes value st) 0 (some_words w.log) (omega (arith, same))) hart here
+    (named : List ℕ) → IsElsewhere program w named h n → h ≢ n → last_stored (after_event program w (Step h)) n ≡ last_stored w n
+other_last_stays program w h n hart sound here named elsewhere other = last_stays program w h n sound (λ address bytes value st same.
+    other (elsewhere st.executes.hart address bytes value (next_store program w h address bytes value st) 0 (some_words w.log) (omega (arith, same))).0) hart
+    here
 
 -- ---- An eviction
 

@@ -1,4 +1,5 @@
 -- The machine simulates an abstract run after all events, and its account is that run's.
+use Rattle.crash_simulation.proofs.Common.{LocalStoresStep, stores_local}
 use Rattle.crash_simulation.proofs.Common.{◌≡◌, ◌≢◌, ℕ, List, ◌∷◌, sym, ◌∙◌, ap, arith, subst, true, false, Option, Some, None, refl, ◌+◌, ◌<◌, [], ◌++◌}
 use Rattle.crash_simulation.proofs.Common.{length, Bool, inl, inr, ◌==◌, slice_get, ◌&&◌, not, true≢false, ◌≤◌, ap₂, none-some, same_Some, holds_none}
 use Rattle.crash_simulation.proofs.Common.{last_position, Event, Step, Evict, Crash, State, after_from, runs_from, ended_from, first_world, Hart, World}
@@ -21,7 +22,7 @@ use Rattle.crash_simulation.proofs.BoundaryFences.{joined_fences, same_fences}
 use Rattle.crash_simulation.specs.Accesses.{Access}
 use Rattle.crash_simulation.proofs.CompletedEffects.{accessed_none, completes_none, completes_other, last_unless}
 use Rattle.crash_simulation.specs.BoundaryPassages.{passages}
-use Rattle.crash_simulation.proofs.BoundaryPassages.{ArePassed, FollowsBegun, led_graph, step_passed, then_passes}
+use Rattle.crash_simulation.proofs.BoundaryPassages.{ArePassed, FollowsBegun, led_graph, passed_from, step_passed, then_passes}
 use Rattle.crash_simulation.specs.AccountRelation.{SimulatesLives, beginning_after, next_beginning}
 use Rattle.crash_simulation.specs.ReleasedSections.{ended_by}
 use Rattle.crash_simulation.specs.InstructionSteps.{on_fragment, at_core}
@@ -66,6 +67,9 @@ module _ (law : FragmentsGoOn) {y : System} {s : IsSystem y} {w : World} {h : �
       subst (λ (k : ℕ). passes_mark y.runs.marks y.runs.program w k ≡ false) (same_number site)
       ((law y.plan code.thread places y.runs.program w n o.environment _ steps _ stands.machine.sound o.fragment).1 y.runs.marks marks)
   passes_none (calls exit o is) bound =
+      let over : c.rest ≡ [] = right_empty c.cleans c.rest (none_ahead y s w h below o.environment _ _ o.fragment) in
+      never_bound (caught_is_over y w stands.abstract code c t over (stands.caught_up h below (λ e. e))) bound
+  passes_none (stores_local from local number o) bound =
       let over : c.rest ≡ [] = right_empty c.cleans c.rest (none_ahead y s w h below o.environment _ _ o.fragment) in
       never_bound (caught_is_over y w stands.abstract code c t over (stands.caught_up h below (λ e. e))) bound
   passes_none (at_core o free) bound = never_bound o.goes.goes.committed bound
@@ -145,7 +149,7 @@ module _ (y : System) (s : IsSystem y) (w : World) (event : Event) (old : Simula
     pub accesses : (n byte : ℕ) → (new.ghosts n).first_accesses byte ≡ first_access_after program w event n byte ((old.ghosts n).first_accesses byte)
     pub graph : FollowsBegun y (now_of y old.abstract) (now_of y new.abstract) (begun_in y w event)
     pub passed : (n : ℕ) → n < thread_count y → ArePassed y (stores_point program w event n) (passed_in n)
-        old.abstract (is_bound (old.ghosts n)) new.abstract (is_bound (new.ghosts n)) n
+        old.abstract (old.ghosts n) new.abstract (new.ghosts n) n
 
   -- the steps are accounted so, and what the machine released
   abbrev IsCountedThen : {waiting : ℕ → Type 0} → SimulatesBut y s later_world waiting → (account : Steps → Steps) → Type 0
@@ -217,8 +221,8 @@ module _ (y : System) (s : IsSystem y) (w : World) (event : Event) (old : Simula
           accesses = accesses_then;
           graph = record { runs = moves.on.graph.runs; is = c.states ∙ moves.on.graph.is };
           passed = λ n below.
-              then_passes y (stores_point program w event n) (passed_in n) old.abstract moves.next.abstract c.stands.abstract (is_bound (old.ghosts n))
-              (is_bound (moves.next.ghosts n)) (is_bound (c.stands.ghosts n)) n (moves.on.passed n below) (c.passed n below);
+              then_passes y (stores_point program w event n) (passed_in n) old.abstract moves.next.abstract c.stands.abstract (old.ghosts n)
+              (moves.next.ghosts n) (c.stands.ghosts n) n (moves.on.passed n below) (c.passed n below);
         };
       }
     where
@@ -238,10 +242,11 @@ pub not_there : (y : System) (w : World) (h : ℕ) → slice_get w.harts h ≡ N
 unfolding happens
 not_there y w h none = sym (ap (λ (o : Option Hart). (stepped y.runs.program w h o).0) none)
 
-module _ (fragments_step : FragmentsStep) (cores_step : CoresStep) where
+module _ (fragments_step : FragmentsStep) (cores_step : CoresStep) (local_stores_step : LocalStoresStep) where
   pub own_by : (y : System) (s : IsSystem y) (w : World) (h : ℕ) (site : Site y s w h) → IsInPhase w h Run → IsReadyToStep site → OwnStep y s w h site.stands
   own_by y s w h site i (on_fragment exit steps o) = fragments_step y s w h site i exit steps o
   own_by y s w h site i (calls exit o is) = calls_step y s w h site i exit o is
+  own_by y s w h site i (stores_local from local number o) = local_stores_step y s w h site i from local number o
   own_by y s w h site i (at_core o free) = cores_step y s w h site i o free
 
   pub runs_simulate : RunsSimulate
@@ -275,7 +280,7 @@ module _ (fragments_step : FragmentsStep) (cores_step : CoresStep) where
                 subst (λ (z : Steps). AreCounted y g after old.abstract old.ghosts z (released_by y.runs.program w (Step h) r))
                 (sym (nothing_counted y.runs.marks y.runs.program w h none steps))
                 (account_stays y (record { source = refl; schedule = refl; uncommitted = refl })
-                (λ n. record { bound = refl; leaving = refl; giving = refl; ahead = refl; last = refl; accesses = refl })
+                (λ n. record { bound = refl; leaving = refl; giving = refl; ahead = refl; last = refl; accesses = refl; told = refl })
                 (stays_done y.runs.program w h old.machine.sound)
                 (λ n i. last_position (point_in (logs i) (still.words i) n)) (none_released y.runs.program w h releases r) counted);
             sections = λ n. record { sections = refl; between = refl };
@@ -388,8 +393,11 @@ module _ (fragments_step : FragmentsStep) (cores_step : CoresStep) where
               passed = λ n below.
                   coe 0 1 (j. ArePassed y (stores_point y.runs.program w (Step h) n)
                   (passages (lowered (flat_of y)) y.plan.boundaries (now_of y (r.similar.abstract j)) (begun_by (marks j) h []) n)
-                  (r.similar.abstract j) ((r.similar.same n).bound j) o.next (is_bound (later.ghosts n)) n)
-                  (step_passed y s w h site.stands o (λ k apart. completes_other (is_point_store w.log k) y.runs.program w h k apart) n);
+                  (r.similar.abstract j) (old.ghosts n) o.next (later.ghosts n) n)
+                  (passed_from y (stores_point y.runs.program w (Step h) n)
+                  (passages (lowered (flat_of y)) y.plan.boundaries (now_of y site.stands.abstract) (begun_by (begins o.led) h []) n)
+                  site.stands.abstract o.next (old.ghosts n) (site.stands.ghosts n) (later.ghosts n) n (r.similar.same n).bound (r.similar.same n).told
+                  (step_passed y s w h site.stands o (λ k apart. completes_other (is_point_store w.log k) y.runs.program w h k apart) n));
             };
           }
 
@@ -606,7 +614,7 @@ module _ (y : System) (s : IsSystem y) (w : World) (stands : Simulates y s w) (n
 
 -- ---- An event
 
-module _ (fragments_step : FragmentsStep) (cores_step : CoresStep) (law : FragmentsGoOn) where
+module _ (fragments_step : FragmentsStep) (cores_step : CoresStep) (local_stores_step : LocalStoresStep) (law : FragmentsGoOn) where
   module _ (y : System) (s : IsSystem y) (w : World) (steps : Steps) (r : ℕ → ℕ)
       (was : SimulatesLives y s (first_beginning y) w steps r) where
     -- the sections that are kept, by the account's steps
@@ -618,9 +626,9 @@ module _ (fragments_step : FragmentsStep) (cores_step : CoresStep) (law : Fragme
         ended_by y (steps_after y.runs.marks y.runs.program w event steps) n
         ≡ ended_by y steps n + one_if (loses_point w (after_event y.runs.program w event) n)
     ends_at_point event n below none =
-        let e = event_goes_on fragments_step cores_step law y s w event was.is.stands in
+        let e = event_goes_on fragments_step cores_step local_stores_step law y s w event was.is.stands in
         let later = steps_after y.runs.marks y.runs.program w event steps in
-        let next = life_goes_on fragments_step cores_step law y s w event steps r none was in
+        let next = life_goes_on fragments_step cores_step local_stores_step law y s w event steps r none was in
         let before = kept_is w steps was n in
         let was_held = point_says y s w was.is.stands n below in
         let is_held = point_says y s (after_event y.runs.program w event) e.next n below in
@@ -631,6 +639,6 @@ module _ (fragments_step : FragmentsStep) (cores_step : CoresStep) (law : Fragme
 
   pub sections_end_at_points : SectionsEndAtPoints
   sections_end_at_points y s events event h below none =
-      let z = machines_resume fragments_step cores_step law y s events in
+      let z = machines_resume fragments_step cores_step local_stores_step law y s events in
       ap (λ (later : Steps). ended_by y later h)
       (steps_join y.runs.marks y.runs.program events (event ∷ []) (first_world y.runs) _) ∙ ends_at_point y s _ _ _ z event h below none

@@ -1,11 +1,11 @@
 -- The machine's account and its releases after an event, where commits are still to be taken.
 use Rattle.crash_simulation.proofs.Common.{◌≡◌, ◌≢◌, ℕ, List, ◌∷◌, sym, ◌∙◌, ap, arith, subst, true, false, Some, None, refl, suc, ◌+◌, ◌<◌, [], ◌++◌}
-use Rattle.crash_simulation.proofs.Common.{Bool, inl, inr, ◌==◌, slice_get, ◌&&◌, if◌then◌else◌, not, true≢false, append-nil, ap₂, is_some, list_any}
+use Rattle.crash_simulation.proofs.Common.{Bool, inl, inr, ◌==◌, slice_get, ◌&&◌, if◌then◌else◌, not, true≢false, append-nil, ap₂, is_some}
 use Rattle.crash_simulation.proofs.Common.{cases_Bool, and_parts, eqb-true, last_position, Event, Step, Evict, Crash, Log, ended_from, goes_on}
 use Rattle.crash_simulation.proofs.Common.{first_world, IsWellFormedWorld, World, happens, after_event, after_crash_of, Outcome, Steps, is_running, passes_mark}
 use Rattle.crash_simulation.proofs.Common.{stores_point, with_step, steps_after, releases_last, LifeSchedules, only_life}
 use Rattle.crash_simulation.proofs.Common.{first_steps, Slot, Phase, Done, Take, Wait, Resume, Run, Ended, log_stays, evictions_touch, steps_touch}
-use Rattle.crash_simulation.proofs.Common.{get-set_same, step_earlier, now, Origin, point_in, Record, is_store}
+use Rattle.crash_simulation.proofs.Common.{get-set_same, step_earlier, now, Origin, point_in, Record}
 use Rattle.crash_simulation.proofs.Common.{IsInPhase, has_all, takes_one, is_kept_from, all_have, one_takes, takes_step, waits_step, resumes_step, stopped_stay}
 use Rattle.crash_simulation.proofs.Common.{Gathers, same_there, same_or_other, holds_none_is, AbstractRun, IsCountedOf, IsAccountedOf, AreCounted, Beginning}
 use Rattle.crash_simulation.proofs.Common.{AreStoredAt, stored_at, last_stored, SimulatesCounted}
@@ -210,7 +210,7 @@ pub evicted_counted : (y : System) (s : IsSystem y) {g : Beginning} (w : World) 
     (released_by y.runs.program w (Evict line mask) r)
 evicted_counted y s w line mask stands steps r counted =
     account_stays y (record { source = refl; schedule = refl; uncommitted = refl })
-    (λ n. record { bound = refl; leaving = refl; giving = refl; ahead = refl; last = refl; accesses = refl })
+    (λ n. record { bound = refl; leaving = refl; giving = refl; ahead = refl; last = refl; accesses = refl; told = refl })
     (λ n i. let here = ap (λ (v : World). slice_get v.harts n) (evictions_touch y.runs.program w line mask).1 ∙ i.here in
     record { hart = i.hart; here = here; phase_is = i.phase_is })
     (evicted_last_stays y.runs.program w line mask) (λ n. sym (none_more (r n))) counted
@@ -288,7 +288,7 @@ module _ (y : System) (s : IsSystem y) (w : World) (h : ℕ) (stands : Simulates
     leaving = refl;
     sections = kept_own y s w h stands i o r n;
     last = λ e. other_last_stays y.runs.program w h n i.hart stands.machine.sound i.here
-        (elsewhere y s w h b stands.machine.log o.stores_own n (λ same. differs (sym same)));
+        [] (elsewhere y s w h b stands.machine.log o.stores_own n (λ same. differs (sym same)) []) (λ same. differs (sym same));
     done = stays_done y.runs.program w h stands.machine.sound n;
   }) (other_counted begun points h position n steps differs) (other_released y.runs.program w h r n differs) (counted.each n below)
 

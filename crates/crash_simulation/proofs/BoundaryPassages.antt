@@ -1,15 +1,15 @@
 -- Boundaries that a thread's steps pass, beside those whose point its hart has stored: what events add to the ones and to the others.
-use Rattle.crash_simulation.proofs.Common.{◌≡◌, ◌≢◌, ℕ, List, ◌∷◌, sym, ◌∙◌, ap, arith, subst, true, false, Option, Some, None, refl, suc, zero, ◌+◌, ◌-◌}
-use Rattle.crash_simulation.proofs.Common.{◌<◌, [], ◌++◌, Bool, inl, inr, ◌==◌, ◌&&◌, not, slice_get, true≢false, none-some, same_Some, option_map}
-use Rattle.crash_simulation.proofs.Common.{cases_Bool, LockName, Pending, locks, unlocks, Step, World, stores_point, GraphThread, FlowState, graph_step}
-use Rattle.crash_simulation.proofs.Common.{graph_after, IsChosen, IsUnlock, NodeAt, lowered, Action, Store, Node, Graph, Eval, Test, Lock, End, Unlock}
-use Rattle.crash_simulation.proofs.Common.{store_ahead, now, attempt_of, Attempt, steps_begun, stores, IsGoing, persists}
-use Rattle.crash_simulation.proofs.Common.{steps_locally, synchronises, commits, crashes, counted_own, counted_other, unequal_of, equal_self}
-use Rattle.crash_simulation.proofs.Common.{flow_now, node_of, node_after, is_there, IsThere, StoresHere, owing_at, locking_at, unlocking_at}
-use Rattle.crash_simulation.proofs.Common.{graph_settles, same_or_other, Code, AbstractRun, kept_of, now_of, is_bound, begins, OwnStep, StepsOrStutters}
-use Rattle.crash_simulation.proofs.Common.{with_ghost, stays, goes, abstract_next, one_if, Simulates, System, IsSystem, flat_of}
-use Rattle.crash_simulation.proofs.Common.{ThreadGhost, ThreadInv, InFragment, ExitPoint, threads_standings, Standing, Statement, ActionLeads, is_some, ℤ}
-use Rattle.crash_simulation.proofs.Common.{replicate, GraphThreadsSettle, flow_kept}
+use Rattle.std.specs.Prelude.{◌⊎◌}
+use Rattle.crash_simulation.proofs.Common.{Record, cond-false, is_some, ◌≡◌, ◌≢◌, ℕ, List, ◌∷◌, sym, ◌∙◌, ap, arith, subst, true, false, Option, Some, None}
+use Rattle.crash_simulation.proofs.Common.{refl, suc, zero, ◌+◌, ◌-◌, ◌<◌, [], Bool, inl, inr, ◌==◌, ◌&&◌, not, slice_get, true≢false, none-some, same_Some}
+use Rattle.crash_simulation.proofs.Common.{option_map, cases_Bool, LockName, Pending, locks, unlocks, Step, World, stores_point, GraphThread, FlowState}
+use Rattle.crash_simulation.proofs.Common.{graph_step, graph_after, IsChosen, IsUnlock, NodeAt, lowered, Action, Store, Node, Graph, Eval, Test, Lock, End}
+use Rattle.crash_simulation.proofs.Common.{Unlock, store_ahead, now, attempt_of, Attempt, steps_begun, stores, IsGoing, persists, steps_locally, synchronises}
+use Rattle.crash_simulation.proofs.Common.{commits, crashes, counted_own, counted_other, unequal_of, equal_self, flow_now, node_of, node_after, is_there}
+use Rattle.crash_simulation.proofs.Common.{IsThere, StoresHere, owing_at, locking_at, unlocking_at, same_or_other, Code, AbstractRun, kept_of, now_of}
+use Rattle.crash_simulation.proofs.Common.{is_bound, begins, OwnStep, StepsOrStutters, with_ghost, stays, goes, abstract_next, one_if, Simulates, System}
+use Rattle.crash_simulation.proofs.Common.{IsSystem, flat_of, ThreadGhost, ThreadInv, InFragment, ExitPoint, threads_standings, Standing, Statement}
+use Rattle.crash_simulation.proofs.Common.{ActionLeads, ℤ}
 use Rattle.std.specs.Prelude.{if◌then◌else◌, slice_index_or}
 use Rattle.recovery_semantics.specs.Attempts.{PassesMutex}
 use Rattle.flow_graph.specs.Actions.{graph_runs}
@@ -21,7 +21,9 @@ use Rattle.source_machine.specs.Mutexes.{first_lock}
 use Rattle.c_tree.specs.Values.{lock_number}
 use Rattle.crash_simulation.specs.BoundaryPassages.{passes_boundary, passages_by, passages_at, passages}
 use Rattle.crash_simulation.proofs.AccountUpdates.{begun_by}
-use Rattle.crash_simulation.proofs.ChosenNodes.{store_there, plain_after_lock, plain_after_unlock}
+use Rattle.crash_simulation.proofs.ChosenNodes.{WritesHere, assigns_there, chosen_there as chosen_node, chosen_writes, stores_there}
+use Rattle.crash_simulation.specs.InstructionSteps.{IsTold}
+use Rattle.crash_simulation.specs.ThreadGhosts.{tells_write}
 use Rattle.crash_simulation.proofs.GraphAfterBegin.{alone, follows_on, matches_now}
 use Rattle.crash_simulation.proofs.LocksAfterStep.{own_ghost, other_ghost}
 use Rattle.crash_simulation.proofs.NodeEffects.{IsAtNode, ahead_is, unlocks_it}
@@ -118,10 +120,27 @@ module _ (y : System) (s : IsSystem y) where
 
   pub chosen_one : (node : ℕ) → IsChosen y.plan.graph y.plan.boundaries node → chosen_here (Some node) ≡ 1
   chosen_one node chosen =
-      let z = store_there y s node chosen in
-      ap (chosen_by (stands_at node)) z.at
-      ∙ (ap (λ (a : Action). one_if (is_chosen a (stands_at node))) z.stores.is
-      ∙ ap one_if (stands_before y.plan.boundaries.before node chosen.stands))
+      let z = chosen_node y s node chosen in
+      let at : NodeAt (lowered (flat_of y)) node z.0 = subst (λ (g : Graph). NodeAt g node z.0) s.plan.lowered z.1 in
+      ap (chosen_by (stands_at node)) at
+      ∙ (by z.0.action (chosen_writes y s node z.0 z.1 chosen) ∙ ap one_if (stands_before y.plan.boundaries.before node chosen.stands))
+    where
+      by : (action : Action) → WritesHere action → one_if (is_chosen action (stands_at node)) ≡ one_if (stands_at node)
+      by action (stores_there t) = ap (λ (a : Action). one_if (is_chosen a (stands_at node))) t.is
+      by action (assigns_there t) = ap (λ (a : Action). one_if (is_chosen a (stands_at node))) t.is
+
+  -- one stands there, or none does
+  pub stands_or_not : (node : ℕ) → (IsChosen y.plan.graph y.plan.boundaries node) ⊎ ¬ (IsChosen y.plan.graph y.plan.boundaries node)
+  stands_or_not node = by (slice_get (lowered (flat_of y)).nodes node) refl
+    where
+      by : (o : Option Node) → slice_get (lowered (flat_of y)).nodes node ≡ o →
+          (IsChosen y.plan.graph y.plan.boundaries node) ⊎ ¬ (IsChosen y.plan.graph y.plan.boundaries node)
+      by None e = inr (λ chosen. let zeroth : chosen_here (Some node) ≡ 0 = ap (chosen_by (stands_at node)) e in omega (arith, chosen_one node chosen, zeroth))
+      by (Some is) e = elim (cases_Bool (is_chosen is.action (stands_at node))) [
+        | inl chosen ↦ inl (chosen_there node is e chosen)
+        | inr none ↦ inr (λ chosen.
+            let zeroth : chosen_here (Some node) ≡ 0 = ap (chosen_by (stands_at node)) e ∙ ap one_if none in omega (arith, chosen_one node chosen, zeroth))
+      ]
 
 -- ---- What is passed by one step
 
@@ -157,26 +176,33 @@ ahead_some : (begun done chosen : ℕ) → 0 < begun → ahead_by begun done cho
 ahead_some zero done chosen some = absurd (omega (arith, some))
 ahead_some (suc k) done chosen some = refl
 
-module _ (y : System) where
-  abbrev pub kept_chosen : AbstractRun y → (thread : ℕ) → ℕ
-  kept_chosen b n = chosen_at (lowered (flat_of y)) y.plan.boundaries (node_of (kept_of y b) n)
+-- what a thread's kept record tells of a write that comes: the boundary before it is passed, and the step isn't kept
+abbrev pub told_of : ThreadGhost → ℕ
+told_of c = one_if (tells_write c)
 
-  abbrev pub passages_ahead : AbstractRun y → (thread : ℕ) → ℕ
-  passages_ahead b n = ahead_by (steps_begun b.config n) (attempt_of b.config n).done (kept_chosen b n)
+module _ (y : System) where
+  abbrev pub passages_ahead : AbstractRun y → (told : ℕ) → (thread : ℕ) → ℕ
+  passages_ahead b told n = ahead_by (steps_begun b.config n) (attempt_of b.config n).done told
 
   -- the points that are stored beyond those of boundaries that kept steps pass: before the node that comes next, and of the boundary to which steps are bound
-  abbrev pub points_ahead : AbstractRun y → (bound : Bool) → (thread : ℕ) → ℕ
-  points_ahead b bound n = kept_chosen b n + one_if bound
+  abbrev pub points_ahead : ThreadGhost → ℕ
+  points_ahead c = told_of c + one_if (is_bound c)
 
   -- the points that are stored grow as the boundaries that are passed, but for those that are ahead
-  abbrev pub ArePassed : (stored : Bool) (passed : ℕ) (b : AbstractRun y) (bound : Bool) (next : AbstractRun y) (bound_then : Bool) (thread : ℕ) → Type 0
-  ArePassed stored passed b bound next bound_then n =
-      one_if stored + points_ahead b bound n + passages_ahead next n ≡ passed + points_ahead next bound_then n + passages_ahead b n
+  abbrev pub ArePassed : (stored : Bool) (passed : ℕ) (b : AbstractRun y) → ThreadGhost → (next : AbstractRun y) → ThreadGhost → (thread : ℕ) → Type 0
+  ArePassed stored passed b c next ending n =
+      one_if stored + points_ahead c + passages_ahead next (told_of ending) n ≡ passed + points_ahead ending + passages_ahead b (told_of c) n
 
-  pub then_passes : (stored : Bool) (passed : ℕ) (b next last : AbstractRun y) (bound bound_then bound_last : Bool) (n : ℕ) →
-      ArePassed stored passed b bound next bound_then n → ArePassed false 0 next bound_then last bound_last n →
-      ArePassed stored passed b bound last bound_last n
-  then_passes stored passed b next last bound bound_then bound_last n first later = omega (arith, first, later)
+  pub then_passes : (stored : Bool) (passed : ℕ) (b next last : AbstractRun y) (c ending at_last : ThreadGhost) (n : ℕ) →
+      ArePassed stored passed b c next ending n → ArePassed false 0 next ending last at_last n → ArePassed stored passed b c last at_last n
+  then_passes stored passed b next last c ending at_last n first later = omega (arith, first, later)
+
+  -- from a thread of which the same is said
+  pub passed_from : (stored : Bool) (passed : ℕ) (b next : AbstractRun y) (c other ending : ThreadGhost) (n : ℕ) → is_bound other ≡ is_bound c →
+      tells_write other ≡ tells_write c → ArePassed stored passed b other next ending n → ArePassed stored passed b c next ending n
+  passed_from stored passed b next c other ending n bound told is =
+      coe 0 1 (i. one_if stored + (one_if (told i) + one_if (bound i)) + passages_ahead next (told_of ending) n
+      ≡ passed + points_ahead ending + passages_ahead b (one_if (told i)) n) is
 
   -- the graph goes on by the steps
   pub record FollowsBegun (before after : FlowState) (begun : List ℕ) : Type 0 where
@@ -227,21 +253,16 @@ module _ (y : System) (s : IsSystem y) (b : AbstractRun y) where
   node_after_is : (u : ℕ) → node_of (now_of y b) u ≡ node_after (flat_of y) (kept_of y b) u (steps_begun b.config u)
   node_after_is u = ap (option_map (λ (z : GraphThread). z.at)) (alone y s b u)
 
-  -- where none is begun
-  pub kept_now : (u : ℕ) → steps_begun b.config u ≡ 0 → kept_chosen y b u ≡ chosen_here y s (node_of (now_of y b) u)
-  kept_now u none = ap (chosen_here y s) (sym (node_after_is u ∙ ap (node_after (flat_of y) (kept_of y b) u) none))
-
-  -- where the thread goes on with its attempt, and stands at no chosen boundary unless that has a step
-  pub going_ahead : (u : ℕ) → IsGoing b.config u → (steps_begun b.config u ≡ 0 → chosen_here y s (node_of (now_of y b) u) ≡ 0) →
-      passages_ahead y b u ≡ kept_chosen y b u
-  going_ahead u going fresh = by (steps_begun b.config u) refl
+  -- where the thread goes on with its attempt, and nothing is told of a write unless that has a step
+  pub going_ahead : (u told : ℕ) → IsGoing b.config u → (steps_begun b.config u ≡ 0 → told ≡ 0) → passages_ahead y b told u ≡ told
+  going_ahead u told going fresh = by (steps_begun b.config u) refl
     where
-      by : (count : ℕ) → steps_begun b.config u ≡ count → passages_ahead y b u ≡ kept_chosen y b u
+      by : (count : ℕ) → steps_begun b.config u ≡ count → passages_ahead y b told u ≡ told
       by zero none =
-          let first : passages_ahead y b u ≡ 0 = ap (λ (k : ℕ). ahead_by k (attempt_of b.config u).done (kept_chosen y b u)) none in
-          omega (arith, first, kept_now u none, fresh none)
+          let first : passages_ahead y b told u ≡ 0 = ap (λ (k : ℕ). ahead_by k (attempt_of b.config u).done told) none in
+          omega (arith, first, fresh none)
       by (suc k) count =
-          let first = ahead_some (steps_begun b.config u) (attempt_of b.config u).done (kept_chosen y b u) (omega (arith, count)) in
+          let first = ahead_some (steps_begun b.config u) (attempt_of b.config u).done told (omega (arith, count)) in
           omega (arith, first, going)
 
   -- ---- Of the thread itself
@@ -268,7 +289,8 @@ module _ (y : System) (s : IsSystem y) (b : AbstractRun y) where
 
     -- ---- A step that passes no mutex
 
-    module _ (next : AbstractRun y) (same : kept_of y next ≡ kept_of y b) (going : IsGoing b.config u)
+    module _ (told : ℕ) (first_told : steps_begun b.config u ≡ 0 → told ≡ chosen_here y s (node_of (now_of y b) u))
+        (next : AbstractRun y) (same : kept_of y next ≡ kept_of y b) (going : IsGoing b.config u)
         (attempt : (attempt_of next.config u).done ≡ suc (attempt_of b.config u).done) (more : steps_begun next.config u ≡ suc (steps_begun b.config u))
         (no_lock : (lock : LockName) (to : ℕ) → st.node.action ≡ Lock lock to → ⊥)
         (no_unlock : (lock : LockName) (to : ℕ) → st.node.action ≡ Unlock lock to → ⊥) where
@@ -287,42 +309,41 @@ module _ (y : System) (s : IsSystem y) (b : AbstractRun y) where
           ap (chosen_here y s) node_now
           ∙ chosen_none y s stood (λ chosen. (r.inside u).inside d stood (omega (arith, some, going)) (omega (arith, within, attempt)) there_by chosen.stands)
 
-      local_ahead : passages_ahead y next u ≡ passed_now u + passages_ahead y b u
+      local_ahead : passages_ahead y next told u ≡ passed_now u + passages_ahead y b told u
       local_ahead =
-          let kept : kept_chosen y next u ≡ kept_chosen y b u = ap (λ (z : FlowState). chosen_here y s (node_of z u)) same in
-          let later = ahead_some (steps_begun next.config u) (attempt_of next.config u).done (kept_chosen y next u) (omega (arith, more)) in
-          by (steps_begun b.config u) refl (omega (arith, later, kept, more, attempt, going))
+          let later = ahead_some (steps_begun next.config u) (attempt_of next.config u).done told (omega (arith, more)) in
+          by (steps_begun b.config u) refl (omega (arith, later, more, attempt, going))
         where
-          by : (count : ℕ) → steps_begun b.config u ≡ count → passages_ahead y next u ≡ kept_chosen y b u →
-              passages_ahead y next u ≡ passed_now u + passages_ahead y b u
+          by : (count : ℕ) → steps_begun b.config u ≡ count → passages_ahead y next told u ≡ told →
+              passages_ahead y next told u ≡ passed_now u + passages_ahead y b told u
           by zero none later =
-              let first : passages_ahead y b u ≡ 0 = ap (λ (k : ℕ). ahead_by k (attempt_of b.config u).done (kept_chosen y b u)) none in
-              omega (arith, later, first, free_passed, kept_now u none)
+              let first : passages_ahead y b told u ≡ 0 = ap (λ (k : ℕ). ahead_by k (attempt_of b.config u).done told) none in
+              omega (arith, later, first, free_passed, first_told none)
           by (suc k) count later =
-              let first = ahead_some (steps_begun b.config u) (attempt_of b.config u).done (kept_chosen y b u) (omega (arith, count)) in
+              let first = ahead_some (steps_begun b.config u) (attempt_of b.config u).done told (omega (arith, count)) in
               omega (arith, later, first, free_passed, inner_plain (omega (arith, count)), going)
 
     -- ---- One that passes a mutex
 
-    module _ (next : AbstractRun y) (same : kept_of y next ≡ kept_of y b) (going : IsGoing b.config u)
+    module _ (told : ℕ) (first_told : steps_begun b.config u ≡ 0 → told ≡ chosen_here y s (node_of (now_of y b) u))
+        (next : AbstractRun y) (same : kept_of y next ≡ kept_of y b) (going : IsGoing b.config u)
         (attempt : (attempt_of next.config u).done ≡ (attempt_of b.config u).done) (more : steps_begun next.config u ≡ suc (steps_begun b.config u))
         (passes : passes_boundary st.node.action (stands_at y s stood) ≡ true) (plain : is_chosen st.node.action (stands_at y s stood) ≡ false) where
-      mutex_ahead : passages_ahead y next u ≡ passed_now u + passages_ahead y b u
+      mutex_ahead : passages_ahead y next told u ≡ passed_now u + passages_ahead y b told u
       mutex_ahead =
-          let kept : kept_chosen y next u ≡ kept_chosen y b u = ap (λ (z : FlowState). chosen_here y s (node_of z u)) same in
-          let later = ahead_some (steps_begun next.config u) (attempt_of next.config u).done (kept_chosen y next u) (omega (arith, more)) in
-          by (steps_begun b.config u) refl (omega (arith, later, kept, more, attempt, going))
+          let later = ahead_some (steps_begun next.config u) (attempt_of next.config u).done told (omega (arith, more)) in
+          by (steps_begun b.config u) refl (omega (arith, later, more, attempt, going))
         where
           one : passed_now u ≡ 1
           one = passed_by ∙ ap one_if passes
 
-          by : (count : ℕ) → steps_begun b.config u ≡ count → passages_ahead y next u ≡ kept_chosen y b u + 1 →
-              passages_ahead y next u ≡ passed_now u + passages_ahead y b u
+          by : (count : ℕ) → steps_begun b.config u ≡ count → passages_ahead y next told u ≡ told + 1 →
+              passages_ahead y next told u ≡ passed_now u + passages_ahead y b told u
           by zero none later =
-              let first : passages_ahead y b u ≡ 0 = ap (λ (k : ℕ). ahead_by k (attempt_of b.config u).done (kept_chosen y b u)) none in
-              omega (arith, later, first, one, kept_now u none, chosen_now, ap one_if plain)
+              let first : passages_ahead y b told u ≡ 0 = ap (λ (k : ℕ). ahead_by k (attempt_of b.config u).done told) none in
+              omega (arith, later, first, one, first_told none, chosen_now, ap one_if plain)
           by (suc k) count later =
-              let first = ahead_some (steps_begun b.config u) (attempt_of b.config u).done (kept_chosen y b u) (omega (arith, count)) in
+              let first = ahead_some (steps_begun b.config u) (attempt_of b.config u).done told (omega (arith, count)) in
               omega (arith, later, first, one, going)
 
     -- ---- What the node does
@@ -375,147 +396,169 @@ module _ (y : System) (s : IsSystem y) (b : AbstractRun y) where
 
   -- ---- What happens by a thread
 
-  abbrev IsAhead : (next : AbstractRun y) → ℕ → Type 0
-  IsAhead next u = passages_ahead y next u ≡ passed_now u + passages_ahead y b u
+  abbrev IsAhead : (told : ℕ) (next : AbstractRun y) → ℕ → Type 0
+  IsAhead told next u = passages_ahead y next told u ≡ passed_now u + passages_ahead y b told u
 
-  own_led : (h : ℕ) (next : AbstractRun y) (led : StepsOrStutters y b h next) →
-      passages_ahead y next h ≡ passages G B (now_of y b) (begun_by (begins led) h []) h + passages_ahead y b h
-  own_led h _ stays = omega arith
-  own_led h _ (goes next (steps_locally u attempts g) by execution respects) =
+  -- what is told is right of the node where the first step is begun
+  abbrev ToldFirst : (told h : ℕ) → Bool → Type 0
+  ToldFirst told h begun = begun ≡ true → steps_begun b.config h ≡ 0 → told ≡ chosen_here y s (node_of (now_of y b) h)
+
+  first_at : (told h u : ℕ) → u ≡ h → (steps_begun b.config h ≡ 0 → told ≡ chosen_here y s (node_of (now_of y b) h)) →
+      steps_begun b.config u ≡ 0 → told ≡ chosen_here y s (node_of (now_of y b) u)
+  first_at told h u same first = subst (λ (k : ℕ). steps_begun b.config k ≡ 0 → told ≡ chosen_here y s (node_of (now_of y b) k)) (sym same) first
+
+  own_led : (told h : ℕ) (next : AbstractRun y) (led : StepsOrStutters y b h next) → ToldFirst told h (begins led) →
+      passages_ahead y next told h ≡ passages G B (now_of y b) (begun_by (begins led) h []) h + passages_ahead y b told h
+  own_led told h _ stays first = omega arith
+  own_led told h _ (goes next (steps_locally u attempts g) by execution respects) first =
       let step = follows_on y s b next (steps_locally u attempts g) refl in
-      subst (IsAhead (abstract_next y b next execution respects)) by
-      (local_ahead u _ step (abstract_next y b next execution respects) refl g.going (ap (λ (a : Attempt). a.done) g.attempt.own)
+      subst (IsAhead told (abstract_next y b next execution respects)) by
+      (local_ahead u _ step told (first_at told h u by (first refl)) (abstract_next y b next execution respects) refl g.going
+      (ap (λ (a : Attempt). a.done) g.attempt.own)
       (counted_own u b.config.uncommitted) (no_lock_at u _ step g.step.locks_none) (no_unlock_at u _ step g.step.unlocks_none))
-  own_led h _ (goes next (stores u memory attempts g) by execution respects) =
+  own_led told h _ (goes next (stores u memory attempts g) by execution respects) first =
       let step = follows_on y s b next (stores u memory attempts g) refl in
       let made = stores_at u _ step g.store g.ahead in
-      subst (IsAhead (abstract_next y b next execution respects)) by
-      (local_ahead u _ step (abstract_next y b next execution respects) refl g.going (ap (λ (a : Attempt). a.done) g.attempt.own)
+      subst (IsAhead told (abstract_next y b next execution respects)) by
+      (local_ahead u _ step told (first_at told h u by (first refl)) (abstract_next y b next execution respects) refl g.going
+      (ap (λ (a : Attempt). a.done) g.attempt.own)
       (counted_own u b.config.uncommitted) (no_lock_stored u _ step made) (no_unlock_stored u _ step made))
-  own_led h _ (goes next (synchronises u g) by execution respects) =
+  own_led told h _ (goes next (synchronises u g) by execution respects) first =
       let step = follows_on y s b next (synchronises u g) refl in
       let m = mutex_node u _ step g.mutex g.passes in
-      subst (IsAhead (abstract_next y b next execution respects)) by
-      (mutex_ahead u _ step (abstract_next y b next execution respects) refl g.going refl (counted_own u b.config.uncommitted) m.0 m.1)
-  own_led h _ (goes next (persists memory g) by execution respects) = omega arith
-  own_led h _ (goes next (commits u attempts g) by execution respects) = absurd by
-  own_led h _ (goes next (crashes attempts g) by execution respects) = absurd by
+      subst (IsAhead told (abstract_next y b next execution respects)) by
+      (mutex_ahead u _ step told (first_at told h u by (first refl)) (abstract_next y b next execution respects) refl g.going refl
+      (counted_own u b.config.uncommitted) m.0 m.1)
+  own_led told h _ (goes next (persists memory g) by execution respects) first = omega arith
+  own_led told h _ (goes next (commits u attempts g) by execution respects) first = absurd by
+  own_led told h _ (goes next (crashes attempts g) by execution respects) first = absurd by
 
   -- another thread is as far as it was
-  others_led : (h n : ℕ) (next : AbstractRun y) (led : StepsOrStutters y b h next) → n ≢ h → passages_ahead y next n ≡ passages_ahead y b n
-  others_led h n _ stays other = refl
-  others_led h n _ (goes next (steps_locally u attempts g) by execution respects) other =
+  others_led : (told h n : ℕ) (next : AbstractRun y) (led : StepsOrStutters y b h next) → n ≢ h → passages_ahead y next told n ≡ passages_ahead y b told n
+  others_led told h n _ stays other = refl
+  others_led told h n _ (goes next (steps_locally u attempts g) by execution respects) other =
       let apart : n ≢ u = λ e. other (e ∙ by) in
-      λ i. ahead_by (counted_other u n b.config.uncommitted (λ e. apart (sym e)) i) (g.attempt.others n apart i).done (kept_chosen y b n)
-  others_led h n _ (goes next (stores u memory attempts g) by execution respects) other =
+      λ i. ahead_by (counted_other u n b.config.uncommitted (λ e. apart (sym e)) i) (g.attempt.others n apart i).done told
+  others_led told h n _ (goes next (stores u memory attempts g) by execution respects) other =
       let apart : n ≢ u = λ e. other (e ∙ by) in
-      λ i. ahead_by (counted_other u n b.config.uncommitted (λ e. apart (sym e)) i) (g.attempt.others n apart i).done (kept_chosen y b n)
-  others_led h n _ (goes next (synchronises u g) by execution respects) other =
+      λ i. ahead_by (counted_other u n b.config.uncommitted (λ e. apart (sym e)) i) (g.attempt.others n apart i).done told
+  others_led told h n _ (goes next (synchronises u g) by execution respects) other =
       let apart : n ≢ u = λ e. other (e ∙ by) in
-      λ i. ahead_by (counted_other u n b.config.uncommitted (λ e. apart (sym e)) i) (attempt_of b.config n).done (kept_chosen y b n)
-  others_led h n _ (goes next (persists memory g) by execution respects) other = refl
-  others_led h n _ (goes next (commits u attempts g) by execution respects) other = absurd by
-  others_led h n _ (goes next (crashes attempts g) by execution respects) other = absurd by
-
-  -- the same is kept
-  kept_led : (h n : ℕ) (next : AbstractRun y) (led : StepsOrStutters y b h next) → kept_chosen y next n ≡ kept_chosen y b n
-  kept_led h n _ stays = refl
-  kept_led h n _ (goes next z by execution respects) = refl
+      λ i. ahead_by (counted_other u n b.config.uncommitted (λ e. apart (sym e)) i) (attempt_of b.config n).done told
+  others_led told h n _ (goes next (persists memory g) by execution respects) other = refl
+  others_led told h n _ (goes next (commits u attempts g) by execution respects) other = absurd by
+  others_led told h n _ (goes next (crashes attempts g) by execution respects) other = absurd by
 
   none_begun : (h n : ℕ) (begun : Bool) → n ≢ h → passages G B (now_of y b) (begun_by begun h []) n ≡ 0
   none_begun h n false other = refl
   none_begun h n true other = none_passed G B (now_of y b) h n other
+
+-- what is told is right of the node where it stands
+told_is : (y : System) (s : IsSystem y) (b : AbstractRun y) (h : ℕ) (told : Bool) →
+    ((node : ℕ) → node_of (now_of y b) h ≡ Some node → IsTold y node told) → (node : ℕ) → node_of (now_of y b) h ≡ Some node →
+    one_if told ≡ chosen_here y s (node_of (now_of y b) h)
+told_is y s b h told right node stands =
+    let is = right node stands in
+    by (stands_or_not y s node) ∙ ap (chosen_here y s) (sym stands)
+  where
+    by : (IsChosen y.plan.graph y.plan.boundaries node) ⊎ ¬ (IsChosen y.plan.graph y.plan.boundaries node) → one_if told ≡ chosen_here y s (Some node)
+    by (inl chosen) = ap one_if ((right node stands).0 chosen) ∙ sym (chosen_one y s node chosen)
+    by (inr plain) = ap one_if ((right node stands).1 plain) ∙ sym (chosen_none y s node plain)
 
 -- a step of a hart that executes instructions
 pub step_passed : (y : System) (s : IsSystem y) (w : World) (h : ℕ) (stands : Simulates y s w) (o : OwnStep y s w h stands) →
     ((n : ℕ) → n ≢ h → stores_point y.runs.program w (Step h) n ≡ false) → (n : ℕ) →
     ArePassed y (stores_point y.runs.program w (Step h) n)
     (passages (lowered (flat_of y)) y.plan.boundaries (now_of y stands.abstract) (begun_by (begins o.led) h []) n)
-    stands.abstract (is_bound (stands.ghosts n)) o.next (is_bound (with_ghost stands.ghosts h o.ghost n)) n
+    stands.abstract (stands.ghosts n) o.next (with_ghost stands.ghosts h o.ghost n) n
 step_passed y s w h stands o unstored n = elim (same_or_other n h) [
   | inl same ↦ subst Passed (sym same) own
   | inr other ↦
       let b = stands.abstract in
-      let bound : is_bound (with_ghost stands.ghosts h o.ghost n) ≡ is_bound (stands.ghosts n) = ap is_bound (other_ghost stands.ghosts h o.ghost n other) in
-      omega (
+      subst (λ (c : ThreadGhost). ArePassed y (stores_point y.runs.program w (Step h) n)
+      (passages (lowered (flat_of y)) y.plan.boundaries (now_of y b) (begun_by (begins o.led) h []) n) b (stands.ghosts n) o.next c n)
+      (sym (other_ghost stands.ghosts h o.ghost n other))
+      (omega (
         arith,
-        ap one_if bound,
         ap one_if (unstored n other),
         none_begun y s b h n (begins o.led) other,
-        others_led y s b h n o.next o.led other,
-        kept_led y s b h n o.next o.led,
-      )
+        others_led y s b (told_of (stands.ghosts n)) h n o.next o.led other,
+      ))
 ]
   where
     Passed : ℕ → Type 0
     Passed k = ArePassed y (stores_point y.runs.program w (Step h) k)
         (passages (lowered (flat_of y)) y.plan.boundaries (now_of y stands.abstract) (begun_by (begins o.led) h []) k)
-        stands.abstract (is_bound (stands.ghosts k)) o.next (is_bound (with_ghost stands.ghosts h o.ghost k)) k
+        stands.abstract (stands.ghosts k) o.next (with_ghost stands.ghosts h o.ghost k) k
+
+    first : begins o.led ≡ true → steps_begun stands.abstract.config h ≡ 0 → told_of (stands.ghosts h) ≡ chosen_here y s (node_of (now_of y stands.abstract) h)
+    first begun none =
+        let t = stands.each h o.below in
+        let at : node_of (now_of y stands.abstract) h ≡ Some t.graph_thread.at =
+        ap (option_map (λ (z : GraphThread). z.at)) (subst (λ (k : ℕ). slice_get (now_of y stands.abstract).graph_threads k ≡ Some t.graph_thread)
+        (s.codes.number h o.below) t.walks) in
+        told_is y s stands.abstract h (tells_write (stands.ghosts h)) (o.counted.begins_told begun none) t.graph_thread.at at
 
     own : Passed h
     own =
         let b = stands.abstract in
         let counts = counts_bound (stores_point y.runs.program w (Step h) h) (is_bound (stands.ghosts h)) (is_bound o.ghost) o.counted.points o.counted.bound in
-        let bound : is_bound (with_ghost stands.ghosts h o.ghost h) ≡ is_bound o.ghost = ap is_bound (own_ghost stands.ghosts h o.ghost) in
-        omega (arith, counts, ap one_if bound, own_led y s b h o.next o.led, kept_led y s b h h o.next o.led)
+        let led = own_led y s b (told_of (stands.ghosts h)) h o.next o.led first in
+        let told : told_of o.ghost ≡ told_of (stands.ghosts h) = ap one_if o.counted.told in
+        subst (λ (c : ThreadGhost). ArePassed y (stores_point y.runs.program w (Step h) h)
+        (passages (lowered (flat_of y)) y.plan.boundaries (now_of y b) (begun_by (begins o.led) h []) h) b (stands.ghosts h) o.next c h)
+        (sym (own_ghost stands.ghosts h o.ghost))
+        (subst (λ (k : ℕ). one_if (stores_point y.runs.program w (Step h) h) + points_ahead y (stands.ghosts h) + passages_ahead y o.next k h
+        ≡ passages (lowered (flat_of y)) y.plan.boundaries (now_of y b) (begun_by (begins o.led) h []) h + (k + one_if (is_bound o.ghost))
+        + passages_ahead y b (told_of (stands.ghosts h)) h) (sym told) (omega (arith, counts, led)))
 
 -- ---- A thread's begun steps are kept
 
--- what is so of a thread's own commit: it has begun steps, and comes to a chosen boundary by them, or passes a mutex
-pub record ComesToBoundary (y : System) (b : AbstractRun y) (thread : ℕ) : Type 0 where
-  pub some : 0 < steps_begun b.config thread
-  pub one : chosen_at (lowered (flat_of y)) y.plan.boundaries (node_of (now_of y b) thread)
-      + (steps_begun b.config thread - (attempt_of b.config thread).done) ≡ 1
+-- what is so of a thread's own commit: it comes to a boundary that stands by choice, or passes a mutex; without a step it has come to none before
+pub record ComesToBoundary (y : System) (b : AbstractRun y) (c : ThreadGhost) (thread : ℕ) : Type 0 where
+  pub one : one_if (is_some c.new.written) + (steps_begun b.config thread - (attempt_of b.config thread).done) ≡ 1
+  pub fresh : steps_begun b.config thread ≡ 0 → is_some c.old.written ≡ false
 
 module _ (y : System) (s : IsSystem y) (w : World) (b : AbstractRun y) (code : Code y.plan) (c : ThreadGhost) (t : ThreadInv y w b code c)
     (not_yet : c.committed ≡ false) where
   open code.thread use {number as u}
 
-  walked : node_of (now_of y b) u ≡ Some t.graph_thread.at
-  walked = ap (option_map (λ (z : GraphThread). z.at)) t.walks
-
-  abbrev chosen_walked : chosen_here y s (node_of (now_of y b) u) ≡ chosen_here y s (Some t.graph_thread.at)
-  chosen_walked = ap (chosen_here y s) walked
-
-  comes_by : (exit : ExitPoint) (steps : ℕ) → IsAtBoundary exit → InFragment y w b code c t.log.hart t.graph_thread exit steps → ComesToBoundary y b u
-  comes_by _ steps at_keeps o =
-      record { some = o.fits.2.before not_yet; one = omega (arith, chosen_walked, chosen_one y s t.graph_thread.at o.fits.0, o.fits.1) }
+  comes_by : (exit : ExitPoint) (steps : ℕ) → IsAtBoundary exit → InFragment y w b code c t.log.hart t.graph_thread exit steps → ComesToBoundary y b c u
+  comes_by _ steps (at_keeps owed) o =
+      let told = ap one_if o.fits.2.written in record { one = omega (arith, told, o.fits.1); fresh = o.fits.2.before not_yet }
   comes_by _ steps (at_took from) o =
-      let lock = o.fragment.of_graph.1 in
       let begun = (o.fits.before not_yet).1.begun in
-      let plain = chosen_none y s t.graph_thread.at (plain_after_lock y s from t.graph_thread.at lock.is lock.lock lock.at lock.locks) in
-      record { some = omega (arith, begun); one = omega (arith, chosen_walked, plain, begun) }
+      let told = ap one_if o.fits.written in
+      record { one = omega (arith, told, begun); fresh = λ none. absurd (omega (arith, none, begun)) }
   comes_by _ steps (at_gives from mutex) o =
-      let unlock = o.fragment.of_graph in
       let begun = (o.fits.before not_yet).begun in
-      let plain = chosen_none y s t.graph_thread.at (plain_after_unlock y s from t.graph_thread.at unlock.is unlock.lock unlock.at unlock.unlocks) in
-      record { some = omega (arith, begun); one = omega (arith, chosen_walked, plain, begun) }
+      let told = ap one_if o.fits.written in
+      record { one = omega (arith, told, begun); fresh = λ none. absurd (omega (arith, none, begun)) }
 
-  pub comes : ComesToBoundary y b u
+  pub comes : ComesToBoundary y b c u
   comes = let u = under_way y w b code c t not_yet in comes_by u.to u.steps u.exit u.on
 
-module _ (y : System) (s : IsSystem y) (b next : AbstractRun y) (k : ℕ) (origin : next.origin ≡ b.origin)
-    (schedule : next.schedule ≡ b.schedule ++ replicate (steps_begun b.config k) k) where
-  settles : GraphThreadsSettle (flat_of y) b.origin b.config b.schedule k (kept_of y next)
-  settles =
-      let r = (resumed y s b).resumed in
-      subst (GraphThreadsSettle (flat_of y) b.origin b.config b.schedule k)
-      (λ i. flow_kept (flat_of y) ((sym origin) i) ((sym schedule) i))
-      (graph_settles (flat_of y) b.origin b.config b.schedule k s.plan.formed r.invariant r.kept)
-
+module _ (y : System) (b next : AbstractRun y) (k : ℕ) where
   -- the thread's own: the point to which they were bound is that of the last boundary that they pass, or of the one before the next node
-  pub own_taken : ComesToBoundary y b k → steps_begun next.config k ≡ 0 → ArePassed y false 0 b true next false k
-  own_taken come none =
-      let kept : kept_chosen y next k ≡ chosen_here y s (node_of (now_of y b) k) =
-      ap (λ (o : Option GraphThread). chosen_here y s (option_map (λ (z : GraphThread). z.at) o)) settles.own in
-      let before = ahead_some (steps_begun b.config k) (attempt_of b.config k).done (kept_chosen y b k) come.some in
-      let later : passages_ahead y next k ≡ 0 = ap (λ (j : ℕ). ahead_by j (attempt_of next.config k).done (kept_chosen y next k)) none in
-      omega (arith, kept, before, later, come.one)
+  pub own_taken : (c : ThreadGhost) → c.committed ≡ false → is_bound c ≡ true → ComesToBoundary y b c k → steps_begun next.config k ≡ 0 →
+      ArePassed y false 0 b c next (record c { committed = true }) k
+  own_taken c not_yet bound come none =
+      let later : passages_ahead y next (one_if (is_some c.new.written)) k ≡ 0 =
+      ap (λ (j : ℕ). ahead_by j (attempt_of next.config k).done (one_if (is_some c.new.written))) none in
+      let old : told_of c ≡ one_if (is_some c.old.written) = ap (λ (r : Record). one_if (is_some r.written)) (cond-false c.committed c.new c.old not_yet) in
+      by (steps_begun b.config k) refl later old (ap one_if bound)
+    where
+      by : (count : ℕ) → steps_begun b.config k ≡ count → passages_ahead y next (one_if (is_some c.new.written)) k ≡ 0 →
+          told_of c ≡ one_if (is_some c.old.written) → one_if (is_bound c) ≡ 1 → ArePassed y false 0 b c next (record c { committed = true }) k
+      by zero count later old one =
+          let before : passages_ahead y b (told_of c) k ≡ 0 = ap (λ (j : ℕ). ahead_by j (attempt_of b.config k).done (told_of c)) count in
+          omega (arith, before, later, old, one, come.one, count, ap one_if (come.fresh count))
+      by (suc j) count later old one =
+          let before = ahead_some (steps_begun b.config k) (attempt_of b.config k).done (told_of c) (omega (arith, count)) in
+          omega (arith, before, later, one, come.one)
 
-  pub others_taken : (n : ℕ) (bound : Bool) → n ≢ k → steps_begun next.config n ≡ steps_begun b.config n →
-      (attempt_of next.config n).done ≡ (attempt_of b.config n).done → ArePassed y false 0 b bound next bound n
-  others_taken n bound other begun done =
-      let kept : kept_chosen y next n ≡ kept_chosen y b n =
-      ap (λ (o : Option GraphThread). chosen_here y s (option_map (λ (z : GraphThread). z.at) o)) (settles.others n other) in
-      let later : passages_ahead y next n ≡ passages_ahead y b n = λ i. ahead_by (begun i) (done i) (kept i) in
-      omega (arith, kept, later)
+  pub others_taken : (n : ℕ) (c : ThreadGhost) → steps_begun next.config n ≡ steps_begun b.config n →
+      (attempt_of next.config n).done ≡ (attempt_of b.config n).done → ArePassed y false 0 b c next c n
+  others_taken n c begun done =
+      let later : passages_ahead y next (told_of c) n ≡ passages_ahead y b (told_of c) n = λ i. ahead_by (begun i) (done i) (told_of c) in
+      omega (arith, later)

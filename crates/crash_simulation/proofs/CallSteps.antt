@@ -16,16 +16,20 @@ use Rattle.crash_simulation.proofs.BoundaryFences.{same_fences}
 use Rattle.crash_simulation.proofs.LastReleases.{holds_some, no_release, holders_stay_none, is_release, none_leaving, describes_test}
 use Rattle.crash_simulation.proofs.LocksAfterStep.{GoneOn, runs_held, held_given}
 use Rattle.crash_simulation.proofs.OwnHartSteps.{view, StepOf, own_step, own_giving, locks_to, held_still}
-use Rattle.crash_simulation.proofs.LockCallSteps.{none_from, point_none, AtEnd, MovesHart, FragmentTo, z, invariant, placed_here, exists_now, now_holders}
+use Rattle.crash_simulation.proofs.LockCallSteps.{none_from, point_none, AtEnd, MovesHart, FragmentTo, z, invariant, exists_now, now_holders}
 use Rattle.crash_simulation.proofs.LockCallSteps.{kept_held, fragment_over, none_left, rest_over, hart_is, committed_over, call_stores, points_none, alone}
 use Rattle.crash_simulation.proofs.LockCallSteps.{holders_after, memory_after, describes_new, asks_step, fences_still, last_still, accesses_still}
 use Rattle.crash_simulation.proofs.StatesMatchSource.{kept_matches}
 use Rattle.crash_simulation.proofs.KeptThreads.{phase_moves}
-use Rattle.crash_simulation.proofs.LoadFreeEnvironment.{bare_answers, bare_just_read, placed}
+use Rattle.crash_simulation.proofs.LoadFreeEnvironment.{placed}
 use Rattle.crash_simulation.proofs.LocksAtCalls.{ends_free}
 use Rattle.crash_simulation.proofs.StepsAfterMarks.{less_soon}
 use Rattle.crash_simulation.proofs.FragmentSteps.{not_twice}
-use Rattle.crash_simulation.proofs.ChosenNodes.{plain_after_unlock}
+use Rattle.crash_simulation.proofs.Common.{Word, frame_in}
+use Rattle.ido_base.specs.Growth.{IsPersisted}
+use Rattle.ido_base.proofs.Public.{persisted_refl}
+use Rattle.crash_simulation.proofs.NodeEnvironments.{frame_guarded, placed_here, frame_loaded}
+use Rattle.crash_simulation.proofs.ThreadViews.{view_persists}
 
 -- ---- An unlock
 
@@ -35,7 +39,7 @@ module _ {y : System} {s : IsSystem y} {w : World} {h from mutex : ℕ} (at : At
   abbrev pub giving : FragmentTo at (z at) (Gives from mutex) 0 []
   giving = fragment_over at
 
-  bounded : IsBounded y b.config n c graph_thread (Some mutex) (HasUnlocked b.config n mutex)
+  bounded : IsBounded y b.config n c graph_thread (Some mutex) false (HasUnlocked b.config n mutex)
   bounded = at.o.fits
 
   unlock : IsUnlockOf y.plan code.thread from graph_thread.locals mutex graph_thread.at
@@ -59,9 +63,9 @@ module _ {y : System} {s : IsSystem y} {w : World} {h from mutex : ℕ} (at : At
   owns = at.held.giving mutex n (exists_now at) gives_it
 
   given : GivesMutex y.plan code.thread places (on_machine y.runs.program w n (z at)) from mutex
-      (record { exit = Gives from mutex; node = graph_thread.at; seen = seen; side = at.o.side }) giving.on.hart giving.registers
+      (record { exit = Gives from mutex; node = graph_thread.at; seen = seen; view = at.o.view }) giving.on.hart giving.registers
   given = unlocks_give calls_count y.plan code.thread y.runs.program code.program code.is w n (z at) from mutex graph_thread.at
-      seen at.o.side [] (placed_here at) giving owns
+      seen at.o.view [] (placed_here at.site) giving owns
 
   abbrev left_holders : List (Option ℕ)
   left_holders = slice_set w.holders mutex None
@@ -111,23 +115,26 @@ module _ {y : System} {s : IsSystem y} {w : World} {h from mutex : ℕ} (at : At
   goes_on_running : is_over ≡ false → phase_after w n left_holders ≡ Run → IsRunningThread y v b code given_ghost given_hart graph_thread
   goes_on_running more run =
       let on = unlocks_go_on y.plan code.thread from graph_thread.locals mutex graph_thread.at unlock y.runs.program code.program code.is v n (z at)
-      seen at.o.side giving.registers
+      seen at.o.view giving.registers
       (placed y s v h at.site.below (at.site.stands.machine.log ∙ sym (alone at given_move).log)
       ((steps_touch y.runs.program w n at.site.stands.machine.sound).count ∙ at.site.stands.machine.count))
       giving.meets given.agrees (given.at run) given.enters in
       on_fragment Arrives on.steps (record {
         environment = z at;
-        answers = bare_answers y s w h at.site.below (now b.config);
-        just_read = bare_just_read y s w h at.site.below b given_ghost;
-        side = at.o.side;
+        answers = frame_guarded at.site (now b.config);
+        loaded = frame_loaded at.site b given_ghost;
+        view = at.o.view;
         at_side = at.o.at_side;
+        frame = view_persists w v n at.o.view (alone at given_move).log (λ own is. subst (λ (ws : List Word). IsPersisted (frame_in w.log w.words n own)
+            (frame_in w.log ws n own)) (sym (alone at given_move).words) (persisted_refl _)) at.o.frame;
         fragment = subst (λ (es : List Effect). IsOnFragment y.plan code.thread places (on_machine y.runs.program v n (z at))
-            (record { exit = Arrives; node = graph_thread.at; seen = seen; side = at.o.side }) on.steps es) (sym (none_left at)) on.on;
+            (record { exit = Arrives; node = graph_thread.at; seen = seen; view = at.o.view }) on.steps es) (sym (none_left at)) on.on;
         fits = (
           record { going = none_begun ∙ sym none_done; rest = rest_over at; giving = refl; committed = committed_over at },
           bounded.execution,
-          λ chosen. absurd (plain_after_unlock y s from graph_thread.at unlock.is unlock.lock unlock.at unlock.unlocks chosen),
+          λ none. bounded.written,
         );
+        owes = tt;
         soon =
             let queue : length given_hart.queue ≡ length t.log.hart.queue = ap (λ (q : List Entry). length q) given_queue in
             let no_cleans : cleans_in (seen_effects (c.cleans ++ c.rest)) ≡ 0 = ap (λ (es : List Effect). cleans_in (seen_effects es)) (none_left at) in
@@ -213,6 +220,8 @@ module _ {y : System} {s : IsSystem y} {w : World} {h from mutex : ℕ} (at : At
         | inl over ↦ halts given_hart (alone at given_move).here (inl (cond-true is_over Done Run over))
         | inr more ↦ is_nearer (nearer.0 ∙ ap suc (sym (cond-false is_over (most_ahead y n) (c.before_mark - 1) more)))
       ];
+      told = refl;
+      begins_told = λ no. absurd (true≢false (sym no));
       last = last_still at at_unlock;
       accesses = accesses_still at at_unlock;
     };
@@ -250,7 +259,7 @@ module _ {y : System} {s : IsSystem y} {w : World} {h : ℕ} (at : AtEnd y s w h
   ended : (happens y.runs.program w (Step n) ≡ moved w n (record (gone_on ending.on.hart) { phase = Ended })) ×
       ((marks : List (List ℕ)) → AreMarksOf marks n (z at) → passes_mark marks y.runs.program w n ≡ false)
   ended = ends_end calls_count y.plan code.thread y.runs.program code.program code.is w n (z at) graph_thread.at
-      seen at.o.side [] ending (none_from n 0 w.holders none_here)
+      seen at.o.view [] ending (none_from n 0 w.holders none_here)
 
   abbrev ended_move : MovesHart at
   ended_move = record {
@@ -286,6 +295,8 @@ module _ {y : System} {s : IsSystem y} {w : World} {h : ℕ} (at : AtEnd y s w h
       bound = λ e. e;
       fences = fences_still at at_end;
       nears = halts ended_move.new (alone at ended_move).here (inr refl);
+      told = refl;
+      begins_told = λ no. absurd (true≢false (sym no));
       last = last_still at at_end;
       accesses = accesses_still at at_end;
     };

@@ -1,95 +1,93 @@
--- Nodes before which a boundary stands by choice: each makes a store, and none of them follows a lock or an unlock.
-use Rattle.crash_simulation.proofs.Common.{◌≡◌, ℕ, List, sym, ◌∙◌, ap, subst, Some, None, inl, inr, slice_get, true≢false, none-some, same_Some}
-use Rattle.crash_simulation.proofs.Common.{LockName, Flat, Statement, State, IsWellFormed, GraphThread, FlowState, IsChosen, NodeAt, Matches, Standing, free}
-use Rattle.crash_simulation.proofs.Common.{threads_standings, lowered, threads_nodes, Action, Node, Graph, Lock, Unlock, nodes_at, node_shaped, ActionLeads}
-use Rattle.crash_simulation.proofs.Common.{agrees, StoresHere, writing_stores, System, IsSystem, flat_of}
-use Rattle.crash_simulation.proofs.LocksAtCalls.{standing_of}
-use Rattle.crash_simulation.proofs.NodeEffects.{owes_here}
+-- Nodes before which a boundary stands by choice: each makes a store, or assigns a local.
+use Rattle.crash_simulation.proofs.Common.{◌≡◌, ℕ, ◌*◌, sym, ◌∙◌, ap, subst, inl, inr, same_Some, Kind, Place, IsChosen, NodeAt, lowered, threads_nodes}
+use Rattle.crash_simulation.proofs.Common.{Action, Eval, Node, Graph, nodes_at, node_shaped, StoresHere, writing_stores, System, IsSystem, flat_of}
+use Rattle.crash_simulation.proofs.Common.{call_weight, weight, entry_ahead, core_ahead, Places}
+use Rattle.c_tree.specs.Exprs as e
+use Rattle.crash_simulation.proofs.StepsAfterMarks.{weight_is}
+use Rattle.crash_simulation.proofs.Common.{Contains, Element, Seen, Store, contains_none, reads_of}
+use Rattle.log_schemes.specs.Schemes.{locals_of}
+use Rattle.log_schemes.specs.declared.locals.Locals.TheVariants.{Frame}
+use Rattle.flow_graph.specs.IdempotentCuts.{IsStoreNode, Writes, stores}
 
--- ---- What is left after a lock or an unlock
+-- an assignment of a local
+pub record AssignsHere (action : Action) : Type 0 where
+  pub place : Place
+  pub local : ℕ
+  pub kind : Kind
+  pub value : e.Placed
+  pub next : ℕ
+  pub is : action ≡ Eval (e.ToLocal place local kind) value next
 
-module _ (x : Flat) (w : IsWellFormed x) where
-  abbrev all : List Standing
-  all = threads_standings x.threads
-
-  -- what stands at a node, and what the node does of it
-  found : (node : ℕ) (is : Node) → NodeAt (lowered x) node is → (s : Standing) × (slice_get all node ≡ Some s) × ActionLeads all is.action s
-  found node is at = standing_of all (threads_nodes x x.threads 0) all node is (agrees x w.threads) (nodes_at x node is at)
-
-  -- no store is owed there
-  record IsFreeAt (node : ℕ) : Type 0 where
-    rest : List Statement
-    stands : slice_get all node ≡ Some (free rest)
-
-  after_lock : (from next : ℕ) (is : Node) (lock : LockName) → NodeAt (lowered x) from is → is.action ≡ Lock lock next → IsFreeAt next
-  after_lock from next is lock at locks =
-      let l = found from is at in
-      let leads = subst (λ (a : Action). ActionLeads all a l.0) locks l.2 in
-      record { rest = leads.rest; stands = leads.follows }
-
-  after_unlock : (from next : ℕ) (is : Node) (lock : LockName) → NodeAt (lowered x) from is → is.action ≡ Unlock lock next → IsFreeAt next
-  after_unlock from next is lock at unlocks =
-      let l = found from is at in
-      let leads = subst (λ (a : Action). ActionLeads all a l.0) unlocks l.2 in
-      record { rest = leads.rest; stands = leads.follows }
-
-  -- such a node makes none
-  stores_none : (node : ℕ) (is : Node) → IsFreeAt node → NodeAt (lowered x) node is → StoresHere is.action → ⊥
-  stores_none node is none at stores =
-      let l = found node is at in
-      let leads = subst (λ (a : Action). ActionLeads all a l.0) stores.is l.2 in
-      let same : l.0 ≡ free none.rest = same_Some _ _ (sym l.1 ∙ none.stands) in
-      true≢false (ap (λ (z : Standing). z.owes) (sym leads.is ∙ same))
-
--- ---- Chosen boundaries
+pub data WritesHere (action : Action) : Type 0 where
+  stores_there : StoresHere action → WritesHere action
+  assigns_there : AssignsHere action → WritesHere action
 
 module _ (y : System) (s : IsSystem y) where
   -- in the form's graph
   in_lowered : (node : ℕ) (is : Node) → NodeAt y.plan.graph node is → NodeAt (lowered (flat_of y)) node is
   in_lowered node is at = subst (λ (g : Graph). NodeAt g node is) s.plan.lowered at
 
-  -- they stand before stores alone
-  pub chosen_stores : (node : ℕ) (is : Node) → NodeAt y.plan.graph node is → IsChosen y.plan.graph y.plan.boundaries node → StoresHere is.action
-  chosen_stores node is at chosen = elim (s.plan.at_writes.before node chosen.stands) [
-    | inl u ↦ absurd (chosen.free u)
-    | inr writes ↦
+  -- a node that reads an element makes no store
+  pub readers_store_none : (node : ℕ) (is : Node) → NodeAt y.plan.graph node is → (seen : Seen) (one : Element) → Contains (reads_of is.action seen) one →
+      IsStoreNode y.plan.graph node → ⊥
+  readers_store_none node is at seen one reads (stores other variable kind next found action) =
+      let same : is.action ≡ Store variable kind next = ap (λ (z : Node). z.action) (same_Some is other (sym at ∙ found)) ∙ action in
+      contains_none one (subst (λ (z : Action). Contains (reads_of z seen) one) same reads)
+
+  module _ (node : ℕ) (is : Node) (at : NodeAt y.plan.graph node is) (chosen : IsChosen y.plan.graph y.plan.boundaries node) where
+    pub stored_here : Writes y.plan.graph node → StoresHere is.action
+    stored_here writes =
         let same : writes.is ≡ is = same_Some writes.is is (sym writes.at ∙ at) in
         writing_stores (threads_nodes (flat_of y) (flat_of y).threads 0) is is.action writes.written
         (node_shaped (flat_of y) node is (nodes_at (flat_of y) node is (in_lowered node is at)))
         (ap (λ (z : Node). z.writes) (sym same) ∙ writes.writes)
-  ]
+
+    -- one that reads an element is an assignment of a local that stands in the frame
+    pub chosen_framed : (seen : Seen) (one : Element) → Contains (reads_of is.action seen) one → locals_of y.plan.log ≡ Frame
+    chosen_framed seen one reads = elim (s.plan.at_writes.before node chosen.stands) [
+      | inl u ↦ absurd (chosen.free u)
+      | inr (inl writes) ↦
+          absurd (contains_none one (subst (λ (z : Action). Contains (reads_of z seen) one) (stored_here writes).is reads))
+      | inr (inr framed) ↦ framed.logged.frame
+    ]
+
+    -- they stand before writes alone
+    pub chosen_writes : WritesHere is.action
+    chosen_writes = elim (s.plan.at_writes.before node chosen.stands) [
+      | inl u ↦ absurd (chosen.free u)
+      | inr (inl writes) ↦ stores_there (stored_here writes)
+      | inr (inr framed) ↦
+          let a = framed.logged.assigns in
+          let same : a.is ≡ is = same_Some a.is is (sym a.at ∙ at) in
+          assigns_there (record {
+            place = a.place;
+            local = framed.logged.local;
+            kind = a.kind;
+            value = a.assigned;
+            next = a.next;
+            is = ap (λ (z : Node). z.action) (sym same) ∙ a.action;
+          })
+    ]
+
+    -- from the entry of one the boundary is ahead, and nothing past that
+    pub chosen_entry : (c : Places) → entry_ahead y.plan c node ≡ 2 * c.words node
+    chosen_entry c = weight_is weight y.plan c node is at ∙ by chosen_writes
+      where
+        by : WritesHere is.action → weight is.action (c.words node) ≡ 2 * c.words node
+        by (stores_there t) = ap (λ (a : Action). weight a (c.words node)) t.is
+        by (assigns_there t) = ap (λ (a : Action). weight a (c.words node)) t.is
+
+    pub chosen_core : (c : Places) → core_ahead y.plan c node ≡ 0
+    chosen_core c = weight_is call_weight y.plan c node is at ∙ by chosen_writes
+      where
+        by : WritesHere is.action → call_weight is.action (c.words node) ≡ 0
+        by (stores_there t) = ap (λ (a : Action). call_weight a (c.words node)) t.is
+        by (assigns_there t) = ap (λ (a : Action). call_weight a (c.words node)) t.is
 
   -- the node of one is there
-  pub record HasStore (node : ℕ) : Type 0 where
-    pub is : Node
-    pub at : NodeAt (lowered (flat_of y)) node is
-    pub stores : StoresHere is.action
-
-  pub store_there : (node : ℕ) → IsChosen y.plan.graph y.plan.boundaries node → HasStore node
-  store_there node chosen = elim (s.plan.at_writes.before node chosen.stands) [
+  pub chosen_there : (node : ℕ) → IsChosen y.plan.graph y.plan.boundaries node → (is : Node) × NodeAt y.plan.graph node is
+  chosen_there node chosen = elim (s.plan.at_writes.before node chosen.stands) [
     | inl u ↦ absurd (chosen.free u)
-    | inr writes ↦
-        record { is = writes.is; at = in_lowered node writes.is writes.at; stores = chosen_stores node writes.is writes.at chosen }
+    | inr (inl writes) ↦ (writes.is, writes.at)
+    | inr (inr framed) ↦ (framed.logged.assigns.is, framed.logged.assigns.at)
   ]
-
-  pub plain_after_lock : (from next : ℕ) (is : Node) (lock : LockName) → NodeAt y.plan.graph from is → is.action ≡ Lock lock next →
-      ¬ (IsChosen y.plan.graph y.plan.boundaries next)
-  plain_after_lock from next is lock at locks chosen =
-      let z = store_there next chosen in
-      stores_none (flat_of y) s.plan.formed next z.is
-      (after_lock (flat_of y) s.plan.formed from next is lock (in_lowered from is at) locks) z.at z.stores
-
-  pub plain_after_unlock : (from next : ℕ) (is : Node) (lock : LockName) → NodeAt y.plan.graph from is → is.action ≡ Unlock lock next →
-      ¬ (IsChosen y.plan.graph y.plan.boundaries next)
-  plain_after_unlock from next is lock at unlocks chosen =
-      let z = store_there next chosen in
-      stores_none (flat_of y) s.plan.formed next z.is
-      (after_unlock (flat_of y) s.plan.formed from next is lock (in_lowered from is at) unlocks) z.at z.stores
-
-  -- where no store is pending
-  pub plain_unless_pending : (flow : FlowState) (source : State) (t : ℕ) → Matches (flat_of y) flow source → (graph_thread : GraphThread) →
-      slice_get flow.graph_threads t ≡ Some graph_thread → graph_thread.pending ≡ None → ¬ (IsChosen y.plan.graph y.plan.boundaries graph_thread.at)
-  plain_unless_pending flow source t matches graph_thread there none chosen =
-      let z = store_there graph_thread.at chosen in
-      let owed = owes_here (flat_of y) s.plan.formed flow source t matches graph_thread there z.is z.at z.stores in
-      none-some owed.0 (sym none ∙ owed.1)

@@ -9,6 +9,7 @@ use Rattle.crash_simulation.proofs.Common.{ExitPoint, Keeps, Code, same_or_other
 use Rattle.crash_simulation.proofs.Common.{Beginning, None, is_bound, CommitStutters, sections_kept, one_if, IsReleasedOf, SimulatesBut, Simulates}
 use Rattle.crash_simulation.proofs.Common.{anybody, AreHeld, AreLocked, gathering, gathered, nobody, System, IsSystem, thread_count, flat_of, ThreadGhost}
 use Rattle.crash_simulation.proofs.Common.{ThreadInv, ExitInv, HasCommittedLog, committed}
+use Rattle.std.specs.Prelude.{ℤ}
 use Rattle.crash_simulation.proofs.BoundaryPassages.{ArePassed, ComesToBoundary, comes, others_taken, own_taken, then_passes}
 use Rattle.crash_simulation.proofs.AccountUpdates.{not_kept, kept_is, kept_pending_is, kept_own_is, kept_other_is, still_accounted}
 use Rattle.crash_simulation.proofs.StatesMatchSource.{resumed, as_source}
@@ -48,18 +49,21 @@ module _ (y : System) (s : IsSystem y) (w : World) (b : AbstractRun y) (code : C
   }
 
   -- at a chosen boundary
-  come : ExitInv y b.config u c t.graph_thread Keeps → 0 < (attempt_of b.config u).done → HasCome x y.plan.boundaries (kept_of y b) b.config u
-  come h0 h1 = grind (arith, as_source)
+  come : (owed : ℤ) → ExitInv y b.config u c t.graph_thread (Keeps owed) → 0 < (attempt_of b.config u).done →
+      HasCome x y.plan.boundaries (kept_of y b) b.config u
+  come owed h0 h1 = grind (arith, as_source)
 
-  keeps_settle : ExitInv y b.config u c t.graph_thread Keeps → (done : ℕ) → (attempt_of b.config u).done ≡ done → HasToSettle y b u
-  keeps_settle h0 done h2 = grind (arith, come, settled_before)
+  keeps_settle : (owed : ℤ) → ExitInv y b.config u c t.graph_thread (Keeps owed) → (done : ℕ) → (attempt_of b.config u).done ≡ done → HasToSettle y b u
+  keeps_settle owed h zero none = nothing (h.1 ∙ none) none
+  keeps_settle owed h (suc k) some =
+      let there = come owed h (omega (arith, some)) in attempt (record { settled = settled_before (inl there); there = λ going. inr there })
 
   -- past a mutex
   past_settles : IsBeforeBoundary x y.plan.boundaries (kept_of y b) b.config u → steps_begun b.config u ≡ suc (attempt_of b.config u).done → HasToSettle y b u
   past_settles before begun = attempt (record { settled = settled_before before; there = λ going. absurd (omega (arith, begun, going)) })
 
   settles_by : (exit : ExitPoint) → IsAtBoundary exit → ExitInv y b.config u c t.graph_thread exit → HasToSettle y b u
-  settles_by _ at_keeps h = keeps_settle h (attempt_of b.config u).done refl
+  settles_by _ (at_keeps owed) h = keeps_settle owed h (attempt_of b.config u).done refl
   settles_by _ (at_took from) h = let locked = h.before not_yet in past_settles (inr (locked.0, inl locked.1.locks_it)) locked.1.begun
   settles_by _ (at_gives from mutex) h = let unlocked = h.before not_yet in past_settles (inr (mutex, inr unlocked.unlocks_it)) unlocked.begun
 
@@ -249,7 +253,7 @@ pub record CatchesUp (y : System) (s : IsSystem y) (w : World) (first : Simulate
   -- the graph is where it was, and of boundaries that are passed and points that are stored as many are ahead
   pub states : now_of y stands.abstract ≡ now_of y first.abstract
   pub passed : (n : ℕ) → n < thread_count y →
-      ArePassed y false 0 first.abstract (is_bound (first.ghosts n)) stands.abstract (is_bound (stands.ghosts n)) n
+      ArePassed y false 0 first.abstract (first.ghosts n) stands.abstract (stands.ghosts n) n
   pub counted : (g : Beginning) (steps : Steps) (r : ℕ → ℕ) → AreCounted y g w first.abstract first.ghosts steps r →
       AreCounted y g w stands.abstract stands.ghosts (with_all_kept w.log w.words count steps) r
   -- sections that are kept since
@@ -288,12 +292,10 @@ module _ (y : System) (s : IsSystem y) (w : World) (first : SimulatesBut y s w a
         let one = is_taken_up y s w k below h.stands not_yet sooner in
         let same = others_same y s b one.next k one.origin one.schedule in
         let passed_by = each_taken y s w k below h.stands one not_yet
-        (λ (n : ℕ) (inside : n < thread_count y) (g : ThreadGhost). ArePassed y false 0 b (is_bound (h.stands.ghosts n)) one.next (is_bound g) n)
-        (subst (λ (z : Bool). ArePassed y false 0 b z one.next false k) (sym bound)
-        (own_taken y s b one.next k one.origin one.schedule
-        (subst (ComesToBoundary y b) (s.codes.number k below) (comes y s w b (s.codes.each k below) mine (h.stands.each k below) not_yet)) one.own_begun))
-        (λ n inside apart. others_taken y s b one.next k one.origin one.schedule n (is_bound (h.stands.ghosts n)) apart (one.others_begun n apart)
-        (one.others_done n apart)) in
+        (λ (n : ℕ) (inside : n < thread_count y) (g : ThreadGhost). ArePassed y false 0 b (h.stands.ghosts n) one.next g n)
+        (own_taken y b one.next k mine not_yet bound
+        (subst (ComesToBoundary y b mine) (s.codes.number k below) (comes y s w b (s.codes.each k below) mine (h.stands.each k below) not_yet)) one.own_begun)
+        (λ n inside apart. others_taken y b one.next k n (h.stands.ghosts n) (one.others_begun n apart) (one.others_done n apart)) in
         record {
           stands = after y s w k below h.stands one not_yet sooner;
           source = one.source ∙ h.source;
@@ -305,7 +307,8 @@ module _ (y : System) (s : IsSystem y) (w : World) (first : SimulatesBut y s w a
           accesses = h.accesses;
           states = one.states ∙ h.states;
           passed = λ n inside.
-              then_passes y false 0 first.abstract b one.next (is_bound (first.ghosts n)) (is_bound (h.stands.ghosts n)) _ n (h.passed n inside)
+              then_passes y false 0 first.abstract b one.next (first.ghosts n) (h.stands.ghosts n)
+              ((after y s w k below h.stands one not_yet sooner).ghosts n) n (h.passed n inside)
               (passed_by n inside);
           counted = λ g steps r counted.
               counted_after y s w k below h.stands one not_yet g (with_all_kept w.log w.words k steps) r (h.counted g steps r counted) bound reached;

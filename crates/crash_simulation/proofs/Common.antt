@@ -16,9 +16,9 @@ pub use Rattle.std.proofs.lemmas.List.Elements.{Contains-append_left, Contains-a
 pub use Rattle.std.proofs.lemmas.Option.{none-some, same_Some, slice_get_within, cond_some, slice_get-map}
 pub use Rattle.ido_base.specs.Growth.{AreEntries, PersistsThrough, AreChanged}
 pub use Rattle.ido_base.specs.Layout.{byte_number, word_number, variable_at, variables_base}
-pub use Rattle.log_schemes.specs.Layout.{point_at, log_words, log_of, word_count}
+pub use Rattle.log_schemes.specs.Layout.{frame_at, point_at, log_words, log_of, word_count}
 pub use Rattle.ido_base.specs.Locks.{holds_none, held_from}
-pub use Rattle.ido_base.specs.Words.{Word, Entry, last_position, word_at, loaded, durable_value, word_of}
+pub use Rattle.ido_base.specs.Words.{Word, Entry, last_position, live_value, word_at, loaded, durable_value, word_of}
 pub use Rattle.machine_events.specs.declared.event.Cause.{Cause}
 pub use Rattle.machine_events.specs.declared.event.Event.{Event}
 pub use Rattle.machine_events.specs.declared.event.Event.TheVariants.{Step, Evict, Crash}
@@ -125,9 +125,10 @@ pub use Rattle.region_attempts.proofs.Public.{matched_after, inner_runs, graph_s
 pub use Rattle.region_attempts.specs.Laws.{IsReadAt}
 pub use Rattle.code_runs.specs.CodeTraces.{Program, MarkedEnvironment, Meets, Trace, seen_effects, Mark, marked}
 pub use Rattle.code_runs.specs.ComputingRuns.{LocalConfig, config}
-pub use Rattle.log_states.specs.Laws.{recorded_by, IsRecoverable}
+pub use Rattle.log_states.specs.Laws.{recorded_by, FrameIsComing, IsRecoverable}
 pub use Rattle.log_states.specs.LogInvariant.{LogInv}
-pub use Rattle.log_states.specs.Logs.{point_in, Record, log_word, IsUnstored, IsSideOf, nothing_recorded, side_of}
+pub use Rattle.log_states.specs.Logs.{point_in, Record, log_word, IsUnstored, IsSideOf, nothing_recorded, side_of, AreNamed, IsFrameWord, IsRecord}
+pub use Rattle.log_states.specs.Logs.{IsUnnamed, frame_in, frame_word, framed_of}
 pub use Rattle.log_states.specs.Machines.{IsElsewhere, config_of, IsNext, MovesTo, IsLogEffect, StoresWord, CleansLine, PassesFence, is_boundary_effect}
 pub use Rattle.log_states.specs.Stages.{is_store, LogConfig, is_committed, fences_ahead, Moves, Elsewhere, left_by_crash, LogIs}
 pub use Rattle.log_states.proofs.Public.{some_words, word_beside, log_facts, committed_where_durable, address_of, variables_are_apart, logs_are_apart}
@@ -146,27 +147,29 @@ pub use Rattle.hart_runs.specs.RunSteps.{cleans_in, steps_left, Contents, Change
 pub use Rattle.hart_runs.proofs.Public.{takes_step, waits_step, resumes_step, stopped_stay, calls_count, persisted_agrees, beside_agrees, others_leave}
 pub use Rattle.hart_runs.proofs.Public.{forward_reaches, drains_reach, cleans_reach_now, fences_settle, others_reach, effect_is, queues_stay_short}
 pub use Rattle.hart_runs.proofs.Public.{starts_are_short, evictions_agree, crashes_step}
-pub use Rattle.thread_code.specs.NodeCodeEffects.{Places, keeping, Entrance, kind_at}
-pub use Rattle.thread_code.specs.Plans.{Plan, IsNodeOf, IsKept, of_local, of_address, of_value, IsPlan, held_names_before, Thread, locks_held, IsThread}
+pub use Rattle.thread_code.specs.NodeCodeEffects.{Places, keeping, keeping_before, Entrance, kind_at, opens_section, view_after}
+pub use Rattle.thread_code.specs.Plans.{Plan, IsLogged, IsNodeOf, IsKept, of_local, of_address, of_value, IsPlan, held_names_before, Thread, locks_held}
+pub use Rattle.thread_code.specs.Plans.{IsThread}
 pub use Rattle.thread_code.specs.Programs.{IsCalling, IsNodeCode, IsThreadCode, IsCallWithin, mark_of}
-pub use Rattle.thread_code.specs.RegistersAtNodes.{IsPendingIn, HasPending, Enters, IsAnsweredIn, IsAnswered, source_of}
+pub use Rattle.thread_code.specs.RegistersAtNodes.{IsPendingIn, HasPending, Enters, IsAnsweredIn, IsAnswered, source_of, IsFrameAnswered, IsReady, LogView}
+pub use Rattle.thread_code.specs.RegistersAtNodes.{MayAssign, with_word, to_enter, to_assign}
 pub use Rattle.thread_code.proofs.Public.{locals_are}
 pub use Rattle.thread_runs.specs.CodeFragments.{IsLockOf, IsUnlockOf, ExitPoint, Arrives, Gives, Ends, IsOnFragment, IsEndOf, on_machine, Keeps, Asks, Took}
-pub use Rattle.thread_runs.specs.CodeFragments.{Stage, effects_of, IsAtCore, ReadsVariables, IsPlaced, stage_after, MayDo, AreSeen, cleans_of}
+pub use Rattle.thread_runs.specs.CodeFragments.{Computes, Stage, effects_of, IsAtCore, IsOwnWord, ReadsOwn, IsPlaced, stage_after, MayDo, AreSeen, cleans_of}
 pub use Rattle.thread_runs.specs.Laws.{AreMarksOf, FragmentsGoOn, GivesMutex, run_of, IsHeldUp, MarksPass, TakesMutex, stage_sees, run_at, IsAtSomeMark}
 pub use Rattle.thread_runs.specs.Laws.{Performing, PassesMark, Stays, left_of, IsOnSomeFragment, GoesOnFrom}
 pub use Rattle.thread_runs.proofs.Public.{unlocks_go_on, call_there, unlocks_give, ends_end, fragments_see_all, cores_see_all, others_keep_fragments}
 pub use Rattle.thread_runs.proofs.Public.{others_keep_cores, plans_are_placed, cleans_on, locks_take, locks_wait, few_cleans, nodes_begin, next_by}
 pub use Rattle.thread_runs.proofs.Public.{next_follows, marks_are_bounded, locks_are_well, unlocks_are_well, ends_are_well, arrivals_end, took_end, at_end}
-pub use Rattle.thread_runs.proofs.Public.{threads_start, locks_go_on, any_at, stays_are_at_core}
-pub use Rattle.recovered_threads.specs.Laws.{AtBoundary, AreRecordsApart}
+pub use Rattle.thread_runs.proofs.Public.{threads_start, locks_go_on, any_at, stays_are_at_core, computes_end}
+pub use Rattle.recovered_threads.specs.Laws.{AssignsAlike, AtBoundary, AreRecordsApart, IsBoundaryAt, after_lock, before_core, of_unlock}
 pub use Rattle.recovered_threads.specs.RecordDescriptions.{Code, IsOrderly, ResumesAt, Describes, past_lock, at_chosen, AllDescribe, past_unlock, between}
-pub use Rattle.recovered_threads.specs.RecordDescriptions.{inside}
+pub use Rattle.recovered_threads.specs.RecordDescriptions.{inside, IsCountedWord, IsNumberAssigned, NodePlace, the_core, the_entry, words_in}
 pub use Rattle.recovered_threads.specs.RecoveryStates.{Gathers, HasGathered, AreGathered, AreGathering, Awaits, IsRecoveredHart, ResumesThread, HasRecord}
 pub use Rattle.recovered_threads.proofs.Public.{same_there, same_or_other, holds_none_is, boundaries_recover, commits_describe, others_describe, gathered_on}
 pub use Rattle.recovered_threads.proofs.Public.{ready_stays, takes_never_wait, points_settle, none_where, crashes_gather}
 pub use Rattle.recovered_threads.proofs.Public.{waits_for_takers, gathered_go_on, records_are_apart, gathered_are_kept, harts_go_on, steps_orderly, gathers_on}
-pub use Rattle.recovered_threads.proofs.Public.{unlocks_enter}
+pub use Rattle.recovered_threads.proofs.Public.{unlocks_enter, assigned_is_apart, has_there, words_are_listed, words_exist}
 pub use Rattle.crash_simulation.specs.AbstractRuns.{AbstractRun, kept_of, now_of, attempts_of}
 pub use Rattle.crash_simulation.specs.AccountRelation.{IsCountedOf, IsAccountedOf, AreCounted, Beginning, AreStoredAt, stored_at, last_stored, SimulatesCounted}
 pub use Rattle.crash_simulation.specs.AccountRelation.{MachinesResume, first_beginning}
@@ -176,7 +179,7 @@ pub use Rattle.crash_simulation.specs.InstructionSteps.{is_leaving, SaysSame, be
 pub use Rattle.crash_simulation.specs.InstructionSteps.{FragmentsStep, CoresStep, Nears, Releases, nothing_released, last_released, StepsOrStutters, with_ghost}
 pub use Rattle.crash_simulation.specs.InstructionSteps.{gives, ends, stays, CallsStep, halts, is_nearer, MayStore, nothing, in_log, element, goes}
 pub use Rattle.crash_simulation.specs.InstructionSteps.{OnFragmentNow, IsDoneBy, abstract_next, thread_of, begins_step, is_begun, asks, IsCounted, AtCoreNow}
-pub use Rattle.crash_simulation.specs.InstructionSteps.{SimulatesReady, RunsReady, OwnStepsSimulate, begins_unlock}
+pub use Rattle.crash_simulation.specs.InstructionSteps.{SimulatesReady, RunsReady, OwnStepsSimulate, begins_unlock, LocalStoresStep, stores_local}
 pub use Rattle.crash_simulation.specs.Laws.{EventsStand, RunsSimulate, CommitStutters, NoneIsStuck, TakesMove, SettledIsKept, CrashSimulates, StartSimulates}
 pub use Rattle.crash_simulation.specs.Laws.{TakesStand, WaitsStand, StoppedStand, ResumesStand, EvictionsSimulate}
 pub use Rattle.crash_simulation.specs.PointSections.{SectionsEndAtPoints, loses_point}
@@ -189,4 +192,6 @@ pub use Rattle.crash_simulation.specs.Systems.{System, IsSystem, thread_count, f
 pub use Rattle.crash_simulation.specs.ThreadGhosts.{Rests, ThreadGhost, on_fragment, at_core, InPhase, ThreadInv, IsRunningThread, GoesClean, IsBounded}
 pub use Rattle.crash_simulation.specs.ThreadGhosts.{ExitInv, HasCommittedLog, committed, AnswersGuarded, IsGuarded, InFragment, is_reached, is_ahead, IsFlushed}
 pub use Rattle.crash_simulation.specs.ThreadGhosts.{IsComing, HasStored, record_kept, IsInAttempt, HasRecords}
-pub use Rattle.crash_simulation.specs.ThreadGhosts.{IsOnItsWay, durable_there, comes_with, recorded_in, IsWordOf, AnswersJustRead, HasRead}
+pub use Rattle.crash_simulation.specs.ThreadGhosts.{IsOnItsWay, durable_there, comes_with, recorded_in, in_frame, IsWordOf, IsReadable, of_element, of_frame}
+pub use Rattle.crash_simulation.specs.ThreadGhosts.{ExitOwes, HasView, IsFrameComing, IsFrameFlushed, IsOwedAt, IsSectioned, frame_ahead, frame_reached}
+pub use Rattle.crash_simulation.specs.ThreadGhosts.{AnswersLoaded, HasRead}

@@ -1,4 +1,11 @@
 -- A step of a hart in a fragment: it makes the next of the effects ahead, or none, or writes an entry back.
+use Rattle.crash_simulation.proofs.Common.{Computes, IsFrameComing, IsFrameFlushed, IsFrameWord, IsSectioned, IsSoon, beyond, frame_ahead, frame_at, frame_in}
+use Rattle.crash_simulation.proofs.Common.{frame_reached, frame_word, log_stays, now_of}
+use Rattle.ido_base.proofs.Public.{same_last}
+use Rattle.crash_simulation.proofs.FrameFlushes.{frame_still}
+use Rattle.crash_simulation.proofs.FrameWords.{all_words, frame_line, none_after_fence}
+use Rattle.crash_simulation.proofs.ThreadViews.{frame_stays, owes_on, view_stays}
+use Rattle.crash_simulation.proofs.PendingFlushes.{frames_stay}
 use Rattle.crash_simulation.proofs.Common.{◌≡◌, ℕ, List, ◌∷◌, sym, ◌∙◌, ap, arith, subst, true, false, Some, refl, suc, ◌+◌, ◌<◌, [], ◌++◌, length, Bool, ◌⊎◌}
 use Rattle.crash_simulation.proofs.Common.{inl, inr, slice_get, ◌&&◌, if◌then◌else◌, not, true≢false, ◌≤◌, ◌-◌, ◌*◌, ◌%◌, ⊎_elim, ◌/◌, Contains, list_any}
 use Rattle.crash_simulation.proofs.Common.{option_map, nat_tests, AreEntries, PersistsThrough, byte_number, variable_at, log_words, log_of, Word, Entry}
@@ -12,11 +19,10 @@ use Rattle.crash_simulation.proofs.Common.{contains_later, own_steps_move, steps
 use Rattle.crash_simulation.proofs.Common.{is_clean, forward_reaches, drains_reach, cleans_reach_now, fences_settle, ExitPoint, Arrives, Gives, Ends}
 use Rattle.crash_simulation.proofs.Common.{IsOnFragment, on_machine, Keeps, Asks, Took, Stage, effects_of, FragmentsGoOn, run_of, IsHeldUp, same_there}
 use Rattle.crash_simulation.proofs.Common.{AbstractRun, kept_of, is_bound, was_unlocked, Site, FragmentsStep, nothing_released, is_nearer, MayStore, nothing}
-use Rattle.crash_simulation.proofs.Common.{in_log, goes, OnFragmentNow, IsSoon, beyond, System, IsSystem, flat_of, shapes_of, places_of, ThreadGhost}
-use Rattle.crash_simulation.proofs.Common.{on_fragment, InPhase, ThreadInv, ExitInv, InFragment, is_reached, is_ahead, IsFlushed}
-use Rattle.crash_simulation.proofs.Common.{is_fence, finishes_fence, boundary_fences, AreFencesCounted, log_stays}
-use Rattle.crash_simulation.proofs.Common.{last_store_after, first_access_after, IsWordOf, recorded_in}
-use Rattle.crash_simulation.proofs.Common.{AnswersJustRead, MarkedEnvironment}
+use Rattle.crash_simulation.proofs.Common.{in_log, goes, OnFragmentNow, System, IsSystem, flat_of, shapes_of, places_of, ThreadGhost, on_fragment, InPhase}
+use Rattle.crash_simulation.proofs.Common.{ThreadInv, ExitInv, InFragment, is_reached, is_ahead, IsFlushed, is_fence, finishes_fence, boundary_fences}
+use Rattle.crash_simulation.proofs.Common.{AreFencesCounted, last_store_after, IsWordOf, recorded_in, first_access_after, AnswersLoaded, MarkedEnvironment}
+use Rattle.crash_simulation.specs.ThreadGhosts.{IsLoaded, StandsAtNoStore, just_read, own_word, read_ahead}
 use Rattle.ido_base.specs.Growth as growth
 use Rattle.hart_runs.specs.RunSteps as steps
 use Rattle.thread_runs.specs.Laws as runs
@@ -123,7 +129,7 @@ module _ {y : System} {s : IsSystem y} {w : World} {h : ℕ} (site : Site y s w 
   open site.stands.machine use {log as logs, sound}
 
   abbrev stage : Stage
-  stage = record { exit = exit; node = graph_thread.at; seen = seen; side = o.side }
+  stage = record { exit = exit; node = graph_thread.at; seen = seen; view = o.view }
 
   abbrev FragmentIn : World → (steps : ℕ) → List Effect → Type 0
   FragmentIn u steps effects = IsOnFragment y.plan code.thread places (on_machine y.runs.program u n o.environment) stage steps effects
@@ -147,6 +153,11 @@ module _ {y : System} {s : IsSystem y} {w : World} {h : ℕ} (site : Site y s w 
   abbrev Settles : List Effect → Type 0
   Settles rest = (u e : ℕ) → c.committed ≡ false → fences_ahead rest < 2 → (f : IsFlushed y w b code c t.log.hart u e) →
       f.position ≤ (history_at new_memory u e).durable
+
+  -- and so is its frame
+  abbrev FrameSettles : List Effect → Type 0
+  FrameSettles rest = c.committed ≡ false → fences_ahead rest < 2 → (word : ℕ) → IsFrameWord w.log word → IsFrameFlushed y w b code c t.log.hart word →
+      last_position (frame_in w.log w.words n word) ≤ (frame_in w.log v.words n word).durable
 
   -- the line's newest words are queued
   abbrev IsQueued : Hart → (address : ℕ) → Type 0
@@ -190,17 +201,18 @@ module _ {y : System} {s : IsSystem y} {w : World} {h : ℕ} (site : Site y s w 
     no_rest : c.rest ≡ [] → rest ≡ []
     no_cleans : c.cleans ≡ [] → cleans ≡ []
     still : (address : ℕ) → Contains c.cleans (Cleans address) → Contains cleans (Cleans address) ⊎ IsQueued d.on.on.hart address
+    still_all : (address : ℕ) → Contains (c.cleans ++ c.rest) (Cleans address) → Contains (cleans ++ rest) (Cleans address) ⊎ IsQueued d.on.on.hart address
 
   -- what is last after the step was so before, or is stored for the record
   abbrev LastsHere : Type 0
   LastsHere = (word position : ℕ) → last_store_after y.runs.program w (Step n) n word (c.last_stores word) ≡ Some position →
       (c.last_stores word ≡ Some position) ⊎ (IsWordOf w.log n c.new word × (position ≤ last_position (word_at v.words word)))
 
-  module _ (d : Does) (ahead : Ahead d) (persisted : ArePersisted old_memory new_memory) (move : MovesTo n w fragment.on.hart c.rest v ahead.rest)
-      (settled : Settles ahead.rest) (may : MayStore y b n d.effect) (lasts : LastsHere)
+  module _ (d : Does) (ahead : Ahead d) (persisted : ArePersisted old_memory new_memory) (move : MovesTo n all_words w fragment.on.hart c.rest v ahead.rest)
+      (settled : Settles ahead.rest) (frames : FrameSettles ahead.rest) (may : MayStore y b n d.effect) (lasts : LastsHere)
       (points : stores_point y.runs.program w (Step n) n ≡ (not (is_bound c) && is_bound (ghost_with ahead.rest ahead.cleans)))
       (bound : is_bound c ≡ true → is_bound (ghost_with ahead.rest ahead.cleans) ≡ true) (fences : FencesCounted ahead.rest) where
-    open ahead use {rest, cleans}
+    open ahead use {rest, cleans, later_is}
 
     persisting : ArePersisted b.config.memory new_memory
     persisting = subst (λ (m : Memory). ArePersisted m new_memory) memory_is persisted
@@ -216,7 +228,7 @@ module _ {y : System} {s : IsSystem y} {w : World} {h : ℕ} (site : Site y s w 
     abbrev next : AbstractRun y
     next = run_after passage
 
-    abbrev moves : MovesTo n w t.log.hart c.rest v rest
+    abbrev moves : MovesTo n all_words w t.log.hart c.rest v rest
     moves = moves_at move t.log.hart hart (sym hart_is) d.on.on.here
 
     coming : StillComes passage
@@ -243,26 +255,61 @@ module _ {y : System} {s : IsSystem y} {w : World} {h : ℕ} (site : Site y s w 
     still : IsStill b.config next.config n c new
     still = grind arith
 
-    just_read : AnswersJustRead y next n new o.environment
-    just_read address bytes value e =
-        let j = o.just_read address bytes value e in
-        record { variable = j.variable; number = j.number; at = j.at; goes = goes_on y still j.goes; step = j.step; last = j.last; read = j.read }
+    stands_still : StandsAtNoStore y b n → StandsAtNoStore y next n
+    stands_still there = record { graph_thread = there.graph_thread; found = there.found; no_store = there.no_store }
+
+    loaded : AnswersLoaded y next n new o.environment
+    loaded address bytes value e = by (o.loaded address bytes value e)
+      where
+        by : IsLoaded y b n c address bytes → IsLoaded y next n new address bytes
+        by (just_read j) = just_read
+            (record { variable = j.variable; number = j.number; at = j.at; goes = goes_on y still j.goes; step = j.step; last = j.last; read = j.read })
+        by (own_word own eight) = own_word own eight
+        by (read_ahead variable number at framed there) = read_ahead variable number at framed (stands_still there)
 
     fragment_after : InFragment y v next code new hart graph_thread exit d.more
     fragment_after = record {
       environment = o.environment;
       answers = o.answers;
-      just_read = just_read;
-      side = o.side;
+      loaded = loaded;
+      view = o.view;
       at_side = o.at_side;
-      fragment = subst (FragmentIn v d.more) ahead.later_is d.on;
+      frame = view_stays t.log moves o.view o.frame;
+      fragment = subst (λ (es : List Effect). FragmentIn v d.more es) later_is d.on;
       fits = exit_on y still graph_thread exit o.fits;
-      soon = subst (λ (es : List Effect). IsSoon y n (c.before_mark - 1) (steps_left d.more (seen_effects es) hart.queue
-          + beyond y.plan places exit graph_thread.at)) ahead.later_is nearer.1;
+      owes = owes_on y code c new (now_of y b) (now_of y b) graph_thread exit t.walks (λ other is found at logged. refl) refl o.owes;
+      soon = subst (λ (es : List Effect). IsSoon y n (c.before_mark - 1)
+          (steps_left d.more (seen_effects es) hart.queue + beyond y.plan places exit graph_thread.at))
+          later_is nearer.1;
     }
 
     in_log_then : (word : ℕ) → IsWordOf w.log n c.new word → IsWordOf v.log n c.new word
     in_log_then word among = subst (λ (l : Log). IsWordOf l n c.new word) (sym (log_stays y.runs.program w (Step n) sound)) among
+
+    -- its frame is on its way still
+    frame_after : IsSectioned new → (word : ℕ) → IsFrameWord v.log word → IsFrameFlushed y v next code new hart word
+    frame_after sectioned word framed =
+        let log = log_stays y.runs.program w (Step n) sound in
+        let is : IsFrameWord w.log word = subst (λ (l : Log). IsFrameWord l word) log framed in
+        let f = t.stored.frame (was_sectioned sectioned) word is in
+        let persists = frame_stays t.log moves in
+        frame_still y w v b next code c new t.log.hart hart log persists
+        (λ j position r. d.reach j position (subst (λ (x : Hart). PersistsThrough w.words x.queue j position) hart_is r))
+        (λ other found. ⊎_elim (λ still. inl still) (λ queued. inr (λ own own_is line.
+        let address : ℕ = frame_at w.log n other in
+        let place : ℕ = frame_word w.log n own in
+        let same : 8 * (byte_number address / 64) + place % 8 ≡ place = frame_line w.log n other own line in
+        subst (λ (j : ℕ). PersistsThrough v.words hart.queue j (last_position (word_at w.words j))) same (queued (place % 8) (omega arith))))
+        (ahead.still_all (frame_at w.log n other) found)) word framed
+        (λ un few.
+        let low = frames un few word is f in
+        let stays = persists word is in
+        subst (λ (l : Log). last_position (frame_in l v.words n word) ≤ (frame_in l v.words n word).durable) (sym log)
+        (omega (arith, low, same_last _ _ stays))) f
+      where
+        was_sectioned : IsSectioned new → IsSectioned c
+        was_sectioned (inl some) = inl some
+        was_sectioned (inr both) = inr (both.0, λ none. both.1 (ahead.no_rest none))
 
     thread_after : ThreadInv y v next code new
     thread_after = record {
@@ -278,12 +325,13 @@ module _ {y : System} {s : IsSystem y} {w : World} {h : ℕ} (site : Site y s w 
       phase = subst (λ (p : Phase). InPhase y v next code new hart graph_thread p) (sym d.on.on.runs) (on_fragment exit d.more fragment_after);
       stored = stored_same passage ahead.all coming (λ u e position since. since_is_persisted b.config.memory new_memory u e position persisting since)
           (λ u e f un few. settled u e un few f) refl (step_durable y.runs.program w n sound)
-          (λ word position is. ⊎_elim (λ was. inl was) (λ own. inr (in_log_then word own.0, own.1)) (lasts word position is))
-          (λ word position among low. recorded_in (in_log_then word among) (step_last y.runs.program w n sound word position low)) t.stored;
+          (λ word position is. ⊎_elim (λ was. inl was) (λ own. inr (recorded_in (in_log_then word own.0) own.1)) (lasts word position is))
+          (λ word position among low. recorded_in (in_log_then word among) (step_last y.runs.program w n sound word position low))
+          (frames_stay passage (log_stays y.runs.program w (Step n) sound) (step_last y.runs.program w n sound)) frame_after t.stored;
       has_read = reads_after passage
-          (record { hart = fragment.on.hart; effect = d.effect; is_next = d.next; environment = o.environment; answered = d.answered; just = just_read })
-          t.has_read bound (omega arith) (omega arith) (λ byte. refl) points
-          (λ variable number address bytes byte unbound writes at from to. inl writes);
+          (record { hart = fragment.on.hart; effect = d.effect; is_next = d.next; environment = o.environment; answered = d.answered; loaded = loaded })
+          t.has_read bound (omega arith) (omega arith) (λ there. inl (stands_still there)) (omega arith) (λ byte. refl) points
+          (λ variable number byte writes of. inl writes);
     }
 
     step_made : StepOf site n
@@ -306,6 +354,8 @@ module _ {y : System} {s : IsSystem y} {w : World} {h : ℕ} (site : Site y s w 
         bound = bound;
         fences = fences;
         nears = is_nearer nearer.0;
+        told = refl;
+        begins_told = λ no. absurd (true≢false (sym no));
         last = λ word. refl;
         accesses = λ byte. refl;
       };
@@ -320,6 +370,14 @@ module _ {y : System} {s : IsSystem y} {w : World} {h : ℕ} (site : Site y s w 
   settled_still : (persisted : ArePersisted old_memory new_memory) (rest : List Effect) → fences_ahead rest ≡ fences_ahead c.rest → Settles rest
   settled_still persisted rest same u e un few f = grind (arith, nat_tests)
 
+  -- and its frame, where the words of that stay
+  frames_still : (rest : List Effect) (move : MovesTo n all_words w fragment.on.hart c.rest v rest) → fences_ahead rest ≡ fences_ahead c.rest →
+      FrameSettles rest
+  frames_still rest move same un few word is f =
+      let was = f.fenced un (omega (arith, few, same)) in
+      let stays = frame_stays t.log (moves_at move t.log.hart move.next (sym hart_is) move.there) word is in
+      omega (arith, was, stays.no_lower)
+
   next_is : (effect : Effect) → effect_at y.runs.program n fragment.on.hart ≡ Some effect → IsNext y.runs.program w n fragment.on.hart effect
   next_is effect at = record { here = fragment.on.here; runs = ap is_running fragment.on.runs; is = at }
 
@@ -329,8 +387,10 @@ module _ {y : System} {s : IsSystem y} {w : World} {h : ℕ} (site : Site y s w 
       inl (last_by y.runs.program w n word (c.last_stores word) fragment.on.hart d.effect d.next (stores_none word d.effect none) ∙ is)
 
   -- a step that stores nothing leaves the log
-  still_moves : (d : Does) → is_store d.effect ≡ false → MovesTo n w fragment.on.hart c.rest v c.rest
-  still_moves d none = grind (arith, steps_move, stores_nothing, fragment)
+  still_moves : (d : Does) → is_store d.effect ≡ false → MovesTo n all_words w fragment.on.hart c.rest v c.rest
+  still_moves d none =
+      steps_move y.runs.program all_words w n n fragment.on.hart c.rest sound fragment.on.here
+      (stores_nothing y.runs.program all_words w n n fragment.on.hart d.effect d.next none)
 
   abbrev all_ahead : (d : Does) → d.later ≡ c.cleans ++ c.rest → Ahead d
   all_ahead d is = record {
@@ -341,6 +401,7 @@ module _ {y : System} {s : IsSystem y} {w : World} {h : ℕ} (site : Site y s w 
     no_rest = λ e. e;
     no_cleans = λ e. e;
     still = λ address found. inl found;
+    still_all = λ address found. inl found;
   }
 
   -- ---- A step that is held up
@@ -366,7 +427,8 @@ module _ {y : System} {s : IsSystem y} {w : World} {h : ℕ} (site : Site y s w 
         answered = held_up_answered o.environment d.effect fragment.on.hart.queue d.held_up;
         holders = ap (λ (z : World). z.holders) d.world;
       } in
-      step_made does (all_ahead does refl) persisted (still_moves does none) (settled_still persisted c.rest refl) (nothing d.effect none)
+      step_made does (all_ahead does refl) persisted (still_moves does none) (settled_still persisted c.rest refl)
+      (frames_still c.rest (still_moves does none) refl) (nothing d.effect none)
       (lasts_none does none)
       (u.counts.0 ∙ not_twice (is_bound c)) (λ e. e) (same_fences (boundary_fences y.plan.log) _ _ c.rest u.counts.1 u.counts.0)
 
@@ -400,8 +462,10 @@ module _ {y : System} {s : IsSystem y} {w : World} {h : ℕ} (site : Site y s w 
     makes_none : (ahead : Ahead does) → ahead.rest ≡ c.rest → is_store effect ≡ false → is_fence effect ≡ false → StepOf site n
     makes_none ahead same none unfenced =
         let persisted = same_persisted (ap (memory_in (places_of y)) (words_are ∙ words_same effect old g.forward.contents none g.forward.changes)) in
-        step_made does ahead persisted (subst (MovesTo n w fragment.on.hart c.rest v) (sym same) (still_moves does none))
-        (settled_still persisted ahead.rest (ap fences_ahead same)) (nothing effect none) (lasts_none does none)
+        let move = subst (MovesTo n all_words w fragment.on.hart c.rest v) (sym same) (still_moves does none) in
+        step_made does ahead persisted move
+        (settled_still persisted ahead.rest (ap fences_ahead same)) (frames_still ahead.rest move (ap fences_ahead same)) (nothing effect none)
+        (lasts_none does none)
         (g.point ∙ no_point w.log n effect none ∙ not_twice (is_bound c)
         ∙ ap (λ (es : List Effect). not (is_bound c) && is_bound (record c { rest = es })) (sym same))
         (λ e. ap (λ (es : List Effect). is_bound (record c { rest = es })) same ∙ e)
@@ -422,6 +486,11 @@ module _ {y : System} {s : IsSystem y} {w : World} {h : ℕ} (site : Site y s w 
           (λ first. let at : address ≡ place = sym (ap address_of first) in inr (subst (IsQueued g.on.on.hart) at now))
           (λ later. inl later)
           (contains_cases (Cleans address) others (Cleans place) (subst (λ (es : List Effect). Contains es (Cleans place)) cleans found));
+      still_all = λ place found. ⊎_elim
+          (λ first. let at : address ≡ place = sym (ap address_of first) in inr (subst (IsQueued g.on.on.hart) at now))
+          (λ later. inl later)
+          (contains_cases (Cleans address) (others ++ c.rest) (Cleans place)
+          (subst (λ (es : List Effect). Contains (es ++ c.rest) (Cleans place)) cleans found));
     }
       where
         now : IsQueued g.on.on.hart address
@@ -435,11 +504,11 @@ module _ {y : System} {s : IsSystem y} {w : World} {h : ℕ} (site : Site y s w 
       inside : IsLogEffect w.log n effect × (is_boundary_effect effect ≡ true)
       inside = boundaries_stay_in w.log n c.old c.new (config_of w t.log.hart c.rest) effect g.later t.log.log rest
 
-      moves_log : MovesTo n w fragment.on.hart c.rest v g.later
+      moves_log : MovesTo n all_words w fragment.on.hart c.rest v g.later
       moves_log =
-          subst (λ (es : List Effect). MovesTo n w fragment.on.hart es v g.later) (sym rest)
-          (subst (λ (r : Reply). MovesTo n w fragment.on.hart (effect ∷ g.later) v (if has_moved r then g.later else effect ∷ g.later))
-          g.forward.reply (own_steps_move y.runs.program w n fragment.on.hart effect g.later does.next inside.1))
+          subst (λ (es : List Effect). MovesTo n all_words w fragment.on.hart es v g.later) (sym rest)
+          (subst (λ (r : Reply). MovesTo n all_words w fragment.on.hart (effect ∷ g.later) v (if has_moved r then g.later else effect ∷ g.later))
+          g.forward.reply (own_steps_move y.runs.program all_words w n fragment.on.hart effect g.later does.next inside.1))
 
       abbrev here : Passage y code
       here = step_to site v b.config.uncommitted b.config.memory b.config.attempts (b.execution, b.respects) c g.on.on.hart
@@ -451,13 +520,14 @@ module _ {y : System} {s : IsSystem y} {w : World} {h : ℕ} (site : Site y s w 
       before_by : (exit : ExitPoint) → ExitInv y b.config n c graph_thread exit → c.committed ≡ false → 0 < (attempt_of b.config n).done →
           IsBeforeBoundary (flat_of y) y.plan.boundaries (kept_of y b) b.config n
       before_by Arrives f un some = absurd (some_rest f.0.rest)
-      before_by Keeps f un some =
+      before_by (Computes from local number) f un some = absurd (some_rest f.0.goes.rest)
+      before_by (Keeps owed) f un some =
           let r = (resumed y s b).resumed in
           let alone = (graph_stands (flat_of y) b.origin b.config b.schedule s.plan.formed r.invariant r.kept).alone n in
           let there : slice_get (flow_solo (flat_of y) (kept_of y b) n (attempt_of b.config n).done).graph_threads n ≡ Some graph_thread =
           ap (λ (k : ℕ). slice_get (flow_solo (flat_of y) (kept_of y b) n k).graph_threads n) (sym f.1) ∙ (sym alone ∙ t.walks) in
           inl (record { node = graph_thread.at; steps = some; at = ap (option_map (λ (x : GraphThread). x.at)) there; stands = f.0.stands })
-      before_by (Asks mutex _) f un some = absurd (some_rest f.goes.rest)
+      before_by (Asks mutex _) f un some = absurd (some_rest f.0.goes.rest)
       before_by (Took from) f un some = let l = f.before un in inr (l.0, inl l.1.locks_it)
       before_by (Gives from mutex) f un some = inr (mutex, inr (f.before un).unlocks_it)
       before_by Ends f un some = absurd (some_rest f.goes.rest)
@@ -468,6 +538,24 @@ module _ {y : System} {s : IsSystem y} {w : World} {h : ℕ} (site : Site y s w 
           fence_settles here s memory_is no_cleans (before_by exit o.fits un (omega (arith, f.within)))
           (λ j position r. fences_settle y.runs.program w n run g.forward is_fence j position
           (subst (λ (x : Hart). PersistsThrough w.words x.queue j position) hart_is r)) u e f
+
+      -- and so is its frame
+      frame_fenced : effect ≡ Fences → FrameSettles g.later
+      frame_fenced is_fence un few word is f = by f.comes
+        where
+          by : IsFrameComing y w b code c t.log.hart word → last_position (frame_in w.log w.words n word) ≤ (frame_in w.log v.words n word).durable
+          by (frame_reached r) =
+              fences_settle y.runs.program w n run g.forward is_fence (frame_word w.log n word) (last_position (frame_in w.log w.words n word))
+              (subst (λ (x : Hart). PersistsThrough w.words x.queue (frame_word w.log n word) (last_position (frame_in w.log w.words n word))) hart_is r)
+          by (frame_ahead other has line) =
+              let place : ℕ = frame_at w.log n other in
+              let rest_is : c.rest ≡ Fences ∷ g.later = rest ∙ ap (λ (e : Effect). e ∷ g.later) is_fence in
+              let found : Contains (Fences ∷ g.later) (Cleans place) =
+              subst (λ (es : List Effect). Contains es (Cleans place)) rest_is
+              (subst (λ (es : List Effect). Contains (es ++ c.rest) (Cleans place)) no_cleans has) in
+              absurd (⊎_elim (λ first. cc)
+              (λ later. none_after_fence w.log n c.old c.new (config_of w t.log.hart c.rest) t.log.log g.later rest_is other later)
+              (contains_cases Fences g.later (Cleans place) found))
 
       -- variables are as they were
       persisted : ArePersisted old_memory new_memory
@@ -487,13 +575,27 @@ module _ {y : System} {s : IsSystem y} {w : World} {h : ℕ} (site : Site y s w 
       lasts_in_log (CleansLine i below same) word position last = lasts_none does (ap is_store same) word position last
       lasts_in_log (PassesFence same) word position last = lasts_none does (ap is_store same) word position last
 
+      -- the line's newest words are queued after its clean
+      line_queued : (address : ℕ) → effect ≡ Cleans address → IsQueued g.on.on.hart address
+      line_queued address is_that k l =
+          subst (λ (x : Hart). PersistsThrough v.words x.queue (8 * (byte_number address / 64) + k)
+          (last_position (word_at w.words (8 * (byte_number address / 64) + k)))) (sym g.same)
+          (cleans_reach_now y.runs.program w n run sound g.forward address k is_that l)
+
+      made_or_ahead : (address : ℕ) → Contains (c.cleans ++ c.rest) (Cleans address) → Contains (c.cleans ++ g.later) (Cleans address)
+          ⊎ IsQueued g.on.on.hart address
+      made_or_ahead address has = ⊎_elim (λ first. inr (line_queued address (sym first)))
+          (λ later. inl (subst (λ (es : List Effect). Contains (es ++ g.later) (Cleans address)) (sym no_cleans) later))
+          (contains_cases effect g.later (Cleans address) (subst (λ (es : List Effect). Contains es (Cleans address)) rest
+          (subst (λ (es : List Effect). Contains (es ++ c.rest) (Cleans address)) no_cleans has)))
+
       -- a store of the point binds the steps, and no other effect does
       abbrev then_bound : ThreadGhost
       then_bound = ghost_with g.later c.cleans
 
-      makes_bound : Settles g.later → stores_point y.runs.program w (Step n) n ≡ (not (is_bound c) && is_bound then_bound) →
+      makes_bound : Settles g.later → FrameSettles g.later → stores_point y.runs.program w (Step n) n ≡ (not (is_bound c) && is_bound then_bound) →
           (is_bound c ≡ true → is_bound then_bound ≡ true) → FencesCounted g.later → StepOf site n
-      makes_bound settled points bound fences = step_made does (record {
+      makes_bound settled frames points bound fences = step_made does (record {
         rest = g.later;
         cleans = c.cleans;
         later_is = ap (λ (es : List Effect). es ++ g.later) (sym no_cleans);
@@ -501,7 +603,8 @@ module _ {y : System} {s : IsSystem y} {w : World} {h : ℕ} (site : Site y s w 
         no_rest = λ none. absurd (some_rest none);
         no_cleans = λ e. e;
         still = λ address found. inl found;
-      }) persisted moves_log settled (log_may y b w n logs effect inside.0) (lasts_in_log inside.0) points bound fences
+        still_all = made_or_ahead;
+      }) persisted moves_log settled frames (log_may y b w n logs effect inside.0) (lasts_in_log inside.0) points bound fences
 
       -- the effect is no more ahead
       fences_counted : (is_store effect ≡ true → stores_point y.runs.program w (Step n) n ≡ not (list_any is_store g.later)) → FencesCounted g.later
@@ -519,10 +622,10 @@ module _ {y : System} {s : IsSystem y} {w : World} {h : ℕ} (site : Site y s w 
       bound_same : (e : Effect) → effect ≡ e → is_store e ≡ false → is_bound then_bound ≡ is_bound c
       bound_same e same none = grind (arith, nat_tests)
 
-      makes_no_store : (e : Effect) → effect ≡ e → is_store e ≡ false → Settles g.later → StepOf site n
-      makes_no_store e same no_store settled =
+      makes_no_store : (e : Effect) → effect ≡ e → is_store e ≡ false → Settles g.later → FrameSettles g.later → StepOf site n
+      makes_no_store e same no_store settled frames =
           let bound = bound_same e same no_store in
-          makes_bound settled
+          makes_bound settled frames
           (g.point ∙ no_point w.log n effect (ap is_store same ∙ no_store) ∙ not_twice (is_bound c)
           ∙ ap (λ (b : Bool). not (is_bound c) && b) (sym bound)) (λ was. bound ∙ was)
           (fences_counted (λ stores. absurd (true≢false (sym stores ∙ (ap is_store same ∙ no_store)))))
@@ -556,7 +659,8 @@ module _ {y : System} {s : IsSystem y} {w : World} {h : ℕ} (site : Site y s w 
 
         makes_log_store : StepOf site n
         makes_log_store =
-            makes_bound (settled_still persisted g.later (fences_same (Stores place 8 value) same none_more)) points_are
+            let fences = fences_same (Stores place 8 value) same none_more in
+            makes_bound (settled_still persisted g.later fences) (frames_still g.later moves_log fences) points_are
             (λ was. absurd (true≢false (sym was ∙ unbound))) (fences_counted (λ stores. last_stored))
 
       makes_log : IsLogEffect w.log n effect → StepOf site n
@@ -564,7 +668,8 @@ module _ {y : System} {s : IsSystem y} {w : World} {h : ℕ} (site : Site y s w 
       makes_log (CleansLine i below same) =
           makes_no_store (Cleans (log_of w.log n + 8 * i)) same refl
           (settled_still persisted g.later (fences_same (Cleans (log_of w.log n + 8 * i)) same none_more))
-      makes_log (PassesFence same) = makes_no_store Fences same refl (fence_settled same)
+          (frames_still g.later moves_log (fences_same (Cleans (log_of w.log n + 8 * i)) same none_more))
+      makes_log (PassesFence same) = makes_no_store Fences same refl (fence_settled same) (frame_fenced same)
 
     made : Made c.cleans c.rest g.later effect → StepOf site n
     made (no_effect none unfenced later) = makes_none (all_ahead does later) refl none unfenced

@@ -1,5 +1,5 @@
 -- A thread whose hart makes no step: after what others do, and where nobody does anything, its invariant still holds.
-use Rattle.crash_simulation.proofs.Common.{◌≡◌, ◌≢◌, ℕ, List, sym, ◌∙◌, ap, arith, subst, true, false, Option, Some, refl, suc, ◌<◌, [], ◌++◌, length}
+use Rattle.crash_simulation.proofs.Common.{◌≡◌, ◌≢◌, ℕ, List, sym, ◌∙◌, ap, arith, subst, true, false, Option, Some, refl, suc, ◌<◌, [], ◌++◌, length, inr}
 use Rattle.crash_simulation.proofs.Common.{slice_get, append-nil, ◌≤◌, ℤ, ◌/◌, le-max_right, PersistsThrough, AreChanged, byte_number, variable_at, Word, Entry}
 use Rattle.crash_simulation.proofs.Common.{Event, Step, are_persisted_refl, changed_refl, IsWellFormed, Guards, held_by, run_keeps, leaves_held}
 use Rattle.crash_simulation.proofs.Common.{IsWellFormedWorld, Hart, World, after_event, Effect, Phase, Done, Run, Ended, log_stays, Seen, GraphThread}
@@ -14,7 +14,7 @@ use Rattle.crash_simulation.proofs.Common.{others_keep_fragments, others_keep_co
 use Rattle.crash_simulation.proofs.Common.{kept_of, now_of, attempts_of, StepsOrStutters, stays, goes, IsDoneBy, abstract_next, System, IsSystem, flat_of}
 use Rattle.crash_simulation.proofs.Common.{shapes_of, ThreadGhost, on_fragment, at_core, InPhase, ThreadInv, IsRunningThread, AnswersGuarded, is_reached}
 use Rattle.crash_simulation.proofs.Common.{is_ahead, IsComing, IsFlushed, HasStored, durable_there, comes_with, recorded_in, IsWordOf, record_kept}
-use Rattle.crash_simulation.proofs.Common.{AnswersJustRead, Element, HasRead, IsReadAt, Log, last_position, word_at}
+use Rattle.crash_simulation.proofs.Common.{AnswersLoaded, Element, HasRead, IsReadAt, Log, last_position, word_at, ⊎_elim, IsReadable, of_element, of_frame}
 use Rattle.flow_graph.specs.Paths.{element}
 use Rattle.crash_simulation.proofs.CompletedEffects.{others_last}
 use Rattle.recovery_semantics.specs.Events.{Stores}
@@ -22,7 +22,14 @@ use Rattle.c_tree.specs.Flats as f
 use Rattle.c_tree.specs.Source as m
 use Rattle.flow_graph.proofs.Public as keeping
 use Rattle.crash_simulation.proofs.StatesMatchSource.{resumed}
-use Rattle.crash_simulation.proofs.ThreadViews.{IsQuiet, IsStill, clean_on, committed_on, exit_on, goes_on, log_moved, rests_on}
+use Rattle.crash_simulation.proofs.Common.{AssignsAlike, HasView, IsFrameWord, LogView, frame_word, in_frame, inl}
+use Rattle.crash_simulation.specs.ThreadGhosts.{IsLoaded, IsLoadedFirst, StandsAtNoStore, in_own_frame, just_read, loaded_ahead, own_word, read_ahead}
+use Rattle.crash_simulation.specs.ThreadGhosts.{read_first}
+use Rattle.crash_simulation.proofs.AssignmentsAlike.{begun_alike}
+use Rattle.crash_simulation.proofs.FrameFlushes.{FrameStays, durable_still, frame_still}
+use Rattle.crash_simulation.proofs.FrameWords.{all_words}
+use Rattle.crash_simulation.proofs.ThreadViews.{IsQuiet, IsStill, clean_on, committed_on, exit_on, frame_stays, log_moved, owed_on, owes_on, rests_on}
+use Rattle.crash_simulation.proofs.ThreadViews.{view_stays, goes_on}
 
 -- ---- A step of one thread leaves the others where they are
 
@@ -150,28 +157,32 @@ pub record IsLeftAlone (y : System) (w v : World) (b : AbstractRun y) (code : Co
   pub log : v.log ≡ w.log
   pub here : (hart : Hart) → slice_get w.harts code.thread.number ≡ Some hart → slice_get v.harts code.thread.number ≡ Some hart
   pub moves : (hart : Hart) → slice_get w.harts code.thread.number ≡ Some hart →
-      Moves w.log code.thread.number (config_of w hart c.rest) (config_of v hart c.rest)
+      Moves w.log code.thread.number all_words (config_of w hart c.rest) (config_of v hart c.rest)
   pub fragments : (z : MarkedEnvironment) → AnswersGuarded y (now b.config) code.thread.number z → (stage : Stage) (steps : ℕ) →
       IsOnFragment y.plan code.thread code.is.places (on_machine y.runs.program w code.thread.number z) stage steps (c.cleans ++ c.rest) →
       IsOnFragment y.plan code.thread code.is.places (on_machine y.runs.program v code.thread.number z) stage steps (c.cleans ++ c.rest)
-  pub cores : (at : ℕ) (seen : Seen) (side : ℕ) (registers : List ℕ) →
-      IsAtCore y.plan code.thread code.is.places w code.thread.number at seen side registers →
-      IsAtCore y.plan code.thread code.is.places v code.thread.number at seen side registers
+  pub cores : (at : ℕ) (seen : Seen) (view : LogView) (owed : ℤ) (registers : List ℕ) →
+      IsAtCore y.plan code.thread code.is.places w code.thread.number at seen view owed registers →
+      IsAtCore y.plan code.thread code.is.places v code.thread.number at seen view owed registers
   pub reach : (queue : List Entry) (j position : ℕ) → PersistsThrough w.words queue j position → PersistsThrough v.words queue j position
   pub longer : (j position : ℕ) → position ≤ last_position (word_at w.words j) → position ≤ last_position (word_at v.words j)
 
 -- a log makes no move where memory is as it was, and its hart's queue
 pub moves_nowhere : (w v : World) (thread : ℕ) (old new : Hart) (rest : List Effect) → v.words ≡ w.words → new.queue ≡ old.queue →
-    Moves w.log thread (config_of w old rest) (config_of v new rest)
+    Moves w.log thread all_words (config_of w old rest) (config_of v new rest)
 moves_nowhere w v thread old new rest words queue =
     Elsewhere [] refl (subst (AreChanged w.words) (sym words) (changed_refl w.words))
-    (subst (IsUnstored w.log thread w.words) (sym words) (λ i below. (are_persisted_refl w.words).each (log_word w.log thread i)))
+    (subst (IsUnstored w.log thread all_words w.words) (sym words) (λ i below. inl ((are_persisted_refl w.words).each (log_word w.log thread i))))
     (queue ∙ sym (append-nil old.queue)) tt
 
 -- what an environment answers is guarded where the thread guards what it did
 pub answers_kept : (y : System) (s next : m.State) (n : ℕ) → ((v e : ℕ) → Guards (flat_of y) s n v e → Guards (flat_of y) next n v e) →
     (z : MarkedEnvironment) → AnswersGuarded y s n z → AnswersGuarded y next n z
-answers_kept y s next n guards z answers address bytes value e = grind arith
+answers_kept y s next n guards z answers address bytes value e = by (answers address bytes value e)
+  where
+    by : IsReadable y s n address bytes → IsReadable y next n address bytes
+    by (of_element g) = of_element (record { variable = g.variable; number = g.number; at = g.at; guards = guards g.variable g.number g.guards })
+    by (of_frame own eight) = of_frame own eight
 
 module _ (y : System) (b next : AbstractRun y) (code : Code y.plan) (c : ThreadGhost) where
   open code.thread use {number as n}
@@ -182,6 +193,7 @@ module _ (y : System) (b next : AbstractRun y) (code : Code y.plan) (c : ThreadG
     pub guards : (v e : ℕ) → Guards (flat_of y) (now b.config) n v e → Guards (flat_of y) (now next.config) n v e
     pub graph_thread : slice_get (now_of y next).graph_threads n ≡ slice_get (now_of y b).graph_threads n
     pub holds : held_by n (now_of y next).holders ≡ held_by n (now_of y b).holders
+    pub alike : AssignsAlike y.plan code.thread (now_of y b) (now_of y next)
     pub describes : Describes y.plan code (kept_of y b) (record_kept c) → Describes y.plan code (kept_of y next) (record_kept c)
     pub last : (mutex : ℕ) → LastUnlocks b.origin.source b.schedule n mutex → LastUnlocks next.origin.source next.schedule n mutex
     pub nodes : (k : ℕ) → k < (attempt_of b.config n).done → node_after (flat_of y) (kept_of y next) n k ≡ node_after (flat_of y) (kept_of y b) n k
@@ -203,40 +215,48 @@ module _ (y : System) (b next : AbstractRun y) (code : Code y.plan) (c : ThreadG
         CleansSince (attempts_of y b) n first (attempt_of b.config n).done line
     cleaned_back first line cleans = grind arith
 
-    -- what it has read
+    stands_there : StandsAtNoStore y b n → StandsAtNoStore y next n
+    stands_there there = record { graph_thread = there.graph_thread; found = still.graph_thread ∙ there.found; no_store = there.no_store }
+
+    -- what it has loaded
     read_on : (giving : Option ℕ) (before_mark : ℕ) → HasRead y b n c → HasRead y next n (record c { giving = giving; before_mark = before_mark })
     read_on giving before_mark reads = record {
-      read = λ byte is.
-          let r = reads.read byte is in
-          record {
-            variable = r.variable;
-            number = r.number;
-            address = r.address;
-            bytes = r.bytes;
-            at = r.at;
-            from = r.from;
-            to = r.to;
-            step = r.step;
-            below = omega (arith, r.below, still.on.done);
-            read = still.reads r.step (element r.variable r.number) r.below r.read;
-            unwritten = λ writes.
-                let sooner = writes.within in
-                r.unwritten (record {
-                  before = writes.before;
-                  within = writes.within;
-                  at = still.writes_back writes.before r.variable r.number (omega (arith, r.below, sooner)) writes.at;
-                });
-            unbound = r.unbound;
-          };
-      written = λ unbound variable number address bytes byte writes.
-          reads.written unbound variable number address bytes byte (written_back variable number writes);
+      read = λ byte is. first (reads.read byte is);
+      written = λ unbound variable number byte writes. reads.written unbound variable number byte (written_back variable number writes);
     }
+      where
+        first : {byte : ℕ} → IsLoadedFirst y b n c byte → IsLoadedFirst y next n (record c { giving = giving; before_mark = before_mark }) byte
+        first (read_first r) = read_first (record {
+          variable = r.variable;
+          number = r.number;
+          of = r.of;
+          step = r.step;
+          below = omega (arith, r.below, still.on.done);
+          read = still.reads r.step (element r.variable r.number) r.below r.read;
+          unwritten = λ writes.
+              let sooner = writes.within in
+              r.unwritten (record {
+                before = writes.before;
+                within = writes.within;
+                at = still.writes_back writes.before r.variable r.number (omega (arith, r.below, sooner)) writes.at;
+              });
+          unbound = r.unbound;
+        })
+        first (in_own_frame own) = in_own_frame own
+        first (loaded_ahead r) = loaded_ahead (record {
+          framed = r.framed;
+          variable = r.variable;
+          number = r.number;
+          of = r.of;
+          since = ⊎_elim (λ there. inl (stands_there there)) (λ gone. inr (gone.0, omega (arith, gone.1, still.on.begun))) r.since;
+        })
 
-    -- what its environment answers has just been read
-    just_read_on : (z : MarkedEnvironment) → AnswersJustRead y b n c z → AnswersJustRead y next n c z
-    just_read_on z just address bytes value e =
-        let j = just address bytes value e in
-        record {
+    -- what its environment answers may be loaded still
+    loaded_on : (z : MarkedEnvironment) → AnswersLoaded y b n c z → AnswersLoaded y next n c z
+    loaded_on z loaded address bytes value e = by (loaded address bytes value e)
+      where
+        by : IsLoaded y b n c address bytes → IsLoaded y next n c address bytes
+        by (just_read j) = just_read (record {
           variable = j.variable;
           number = j.number;
           at = j.at;
@@ -244,7 +264,9 @@ module _ (y : System) (b next : AbstractRun y) (code : Code y.plan) (c : ThreadG
           step = j.step;
           last = j.last ∙ sym still.on.done;
           read = still.reads j.step (element j.variable j.number) (omega (arith, j.last)) j.read;
-        }
+        })
+        by (own_word own eight) = own_word own eight
+        by (read_ahead variable number at framed there) = read_ahead variable number at framed (stands_there there)
 
     module _ (w v : World)
         (reach : (queue : List Entry) (j position : ℕ) → PersistsThrough w.words queue j position → PersistsThrough v.words queue j position)
@@ -270,21 +292,31 @@ module _ (y : System) (b next : AbstractRun y) (code : Code y.plan) (c : ThreadG
       }
 
       -- what it has stored
-      stored_on : (hart later : Hart) → later.queue ≡ hart.queue → v.log ≡ w.log → (giving : Option ℕ) (before_mark : ℕ) → HasStored y w b code c hart →
+      stored_on : (hart later : Hart) → later.queue ≡ hart.queue → v.log ≡ w.log → FrameStays w v n hart later (c.cleans ++ c.rest) (c.cleans ++ c.rest) →
+          (giving : Option ℕ) (before_mark : ℕ) → HasStored y w b code c hart →
           HasStored y v next code (record c { giving = giving; before_mark = before_mark }) later
-      stored_on hart later queue log giving before_mark stored = record {
+      stored_on hart later queue log whole giving before_mark stored = record {
         cleans = stored.cleans;
         flushed = λ u e written. flushed_on hart later queue giving before_mark u e (stored.flushed u e (written_back u e written));
         last = λ word position is. elim (stored.last word position is) [
           | durable_there low ↦ durable_there (reach [] word position low)
           | comes_with u e f at low ↦ comes_with u e (flushed_on hart later queue giving before_mark u e f) at low
           | recorded_in among low ↦ recorded_in (subst (λ (l : Log). IsWordOf l n c.new word) (sym log) among) (longer word position low)
+          | in_frame own framed at low ↦
+              in_frame own (subst (λ (l : Log). IsFrameWord l own) (sym log) framed) (ap (λ (l : Log). frame_word l n own) log ∙ at) (longer word position low)
         ];
+        frame = λ sectioned word framed.
+            let f = stored.frame sectioned word (subst (λ (l : Log). IsFrameWord l word) log framed) in
+            frame_still y w v b next code c (record c { giving = giving; before_mark = before_mark }) hart later log whole
+            (λ j position r. subst (λ (q : List Entry). PersistsThrough v.words q j position) (sym queue) (reach hart.queue j position r))
+            (λ other has. inl has) word framed
+            (λ un few. durable_still y w v b next code c (record c { giving = giving; before_mark = before_mark }) hart later log whole word framed
+            (f.fenced un few)) f;
       }
 
       -- all of it, whichever its phase, where it has no more to give back
       pub stands_with : (giving : Option ℕ) (before_mark : ℕ) → ((mutex : ℕ) → giving ≡ Some mutex → c.giving ≡ Some mutex) → (t : ThreadInv y w b code c)
-          (m : MovesTo n w t.log.hart c.rest v c.rest) → m.next.queue ≡ t.log.hart.queue →
+          (m : MovesTo n all_words w t.log.hart c.rest v c.rest) → m.next.queue ≡ t.log.hart.queue →
           InPhase y v next code (record c { giving = giving; before_mark = before_mark }) m.next t.graph_thread m.next.phase →
           ThreadInv y v next code (record c { giving = giving; before_mark = before_mark })
       stands_with giving before_mark gives t m queue phase = record {
@@ -292,52 +324,63 @@ module _ (y : System) (b next : AbstractRun y) (code : Code y.plan) (c : ThreadG
         records = record {
           no_sooner = λ is. committed_on t.log m (t.records.no_sooner is);
           describes = still.describes t.records.describes;
-          will_describe = λ un. others_describe y.plan code (now_of y b) (now_of y next) c.new (t.records.will_describe un) still.graph_thread still.holds;
+          will_describe = λ un. others_describe y.plan code (now_of y b) (now_of y next) c.new (t.records.will_describe un) still.graph_thread still.holds
+              still.alike;
           unlocked = λ mutex gave over. still.last mutex (t.records.unlocked mutex (gives mutex gave) over);
         };
         graph_thread = t.graph_thread;
         walks = still.graph_thread ∙ t.walks;
         phase = phase;
-        stored = stored_on t.log.hart m.next queue m.log giving before_mark t.stored;
+        stored = stored_on t.log.hart m.next queue m.log (frame_stays t.log m) giving before_mark t.stored;
         has_read = read_on giving before_mark t.has_read;
       }
 
-    module _ (w v : World) (left : IsLeftAlone y w v b code c) where
-      runs_on : (hart : Hart) (graph_thread : GraphThread) → IsRunningThread y w b code c hart graph_thread → IsRunningThread y v next code c hart graph_thread
-      runs_on hart graph_thread (on_fragment exit steps o) = on_fragment exit steps (record {
+    module _ (w v : World) (left : IsLeftAlone y w v b code c) (views : (view : LogView) → HasView w n view → HasView v n view) where
+      runs_on : (hart : Hart) (graph_thread : GraphThread) → slice_get (now_of y b).graph_threads n ≡ Some graph_thread →
+          IsRunningThread y w b code c hart graph_thread → IsRunningThread y v next code c hart graph_thread
+      runs_on hart graph_thread walks (on_fragment exit steps o) = on_fragment exit steps (record {
         environment = o.environment;
         answers = answers_kept y (now b.config) (now next.config) n still.guards o.environment o.answers;
-        just_read = just_read_on o.environment o.just_read;
-        side = o.side;
+        loaded = loaded_on o.environment o.loaded;
+        view = o.view;
         at_side = o.at_side;
+        frame = views o.view o.frame;
         fragment = fragments_see_all y.plan code.thread code.is.places y.runs.program v n o.environment _ steps _ (now_of y next).variables
             (left.fragments o.environment o.answers _ steps o.fragment);
         fits = exit_on y still.on graph_thread exit o.fits;
+        owes = owes_on y code c c (now_of y b) (now_of y next) graph_thread exit walks still.alike refl o.owes;
         soon = o.soon;
       })
-      runs_on hart graph_thread (at_core o) = at_core (record {
-        side = o.side;
+      runs_on hart graph_thread walks (at_core o) = at_core (record {
+        view = o.view;
         at_side = o.at_side;
+        frame = views o.view o.frame;
+        owed = o.owed;
         registers = o.registers;
-        core = cores_see_all y.plan code.thread code.is.places v n graph_thread.at _ o.side o.registers (now_of y next).variables
-            (left.cores graph_thread.at _ o.side o.registers o.core);
+        core = cores_see_all y.plan code.thread code.is.places v n graph_thread.at _ o.view o.owed o.registers (now_of y next).variables
+            (left.cores graph_thread.at _ o.view o.owed o.registers o.core);
+        owes = owed_on y code c c (now_of y b) (now_of y next) graph_thread o.owed walks still.alike refl o.owes;
         goes = clean_on y still.on false graph_thread o.goes;
         fresh = λ chosen. still.on.done ∙ o.fresh chosen;
+        told = o.told;
+        untold = λ plain none. o.untold plain (sym still.on.begun ∙ none);
         soon = o.soon;
       })
 
-      in_phase_on : (hart : Hart) (graph_thread : GraphThread) (phase : Phase) → InPhase y w b code c hart graph_thread phase →
+      in_phase_on : (hart : Hart) (graph_thread : GraphThread) (phase : Phase) → slice_get (now_of y b).graph_threads n ≡ Some graph_thread →
+          InPhase y w b code c hart graph_thread phase →
           InPhase y v next code c hart graph_thread phase
-      in_phase_on hart graph_thread Run p = runs_on hart graph_thread p
-      in_phase_on hart graph_thread Done p = (rests_on y still.on refl p.0, p.1)
-      in_phase_on hart graph_thread Ended p = (clean_on y still.on true graph_thread p.0, p.1)
-      in_phase_on hart graph_thread phase p = rests_on y still.on refl p
+      in_phase_on hart graph_thread Run walks p = runs_on hart graph_thread walks p
+      in_phase_on hart graph_thread Done walks p = (rests_on y still.on refl p.0, p.1)
+      in_phase_on hart graph_thread Ended walks p = (clean_on y still.on true graph_thread p.0, p.1)
+      in_phase_on hart graph_thread phase walks p = rests_on y still.on refl p
 
-      pub stands_kept : ThreadInv y w b code c → ThreadInv y v next code c
-      stands_kept t =
-          stands_with w v left.reach left.longer c.giving c.before_mark (λ mutex gives. gives) t
-          (record { next = t.log.hart; there = left.here t.log.hart t.log.here; log = left.log; moves = left.moves t.log.hart t.log.here }) refl
-          (in_phase_on t.log.hart t.graph_thread t.log.hart.phase t.phase)
+    pub stands_kept : (w v : World) → IsLeftAlone y w v b code c → ThreadInv y w b code c → ThreadInv y v next code c
+    stands_kept w v left t =
+        let m : MovesTo n all_words w t.log.hart c.rest v c.rest =
+        record { next = t.log.hart; there = left.here t.log.hart t.log.here; log = left.log; moves = left.moves t.log.hart t.log.here } in
+        stands_with w v left.reach left.longer c.giving c.before_mark (λ mutex gives. gives) t m refl
+        (in_phase_on w v left (view_stays t.log m) t.log.hart t.graph_thread t.log.hart.phase t.walks t.phase)
 
 -- ---- After what others do, a step of another hart or an eviction
 
@@ -348,7 +391,8 @@ module _ (y : System) (b : AbstractRun y) (code : Code y.plan) (c : ThreadGhost)
 
   module _ (next : Config) (execution : Execution (flat_of y) b.origin.source next b.schedule)
       (respects : RespectsAll (flat_of y) y.plan.boundaries b.origin execution)
-      (still : IsUnmoved (flat_of y) b.origin b.schedule b.config next n) where
+      (still : IsUnmoved (flat_of y) b.origin b.schedule b.config next n)
+      (alike : AssignsAlike y.plan code.thread (now_of y b) (now_of y (abstract_next y b next execution respects))) where
     done_same : (attempt_of next n).done ≡ (attempt_of b.config n).done
     done_same = ap (λ (a : Attempt). a.done) still.attempt
 
@@ -364,7 +408,7 @@ module _ (y : System) (b : AbstractRun y) (code : Code y.plan) (c : ThreadGhost)
     reads_still k one within r = subst (λ (z : m.State). IsReadAt (flat_of y) (kept_of y b) z n k one) (sym still.kept) r
 
     is_kept : IsKept y b (abstract_next y b next execution respects) code c
-    is_kept = grind (arith, held_same, begun_after, done_same, solo_same, reads_still)
+    is_kept = grind (arith, alike, held_same, begun_after, done_same, solo_same, reads_still)
 
   -- ---- In the machine
 
@@ -372,7 +416,7 @@ module _ (y : System) (b : AbstractRun y) (code : Code y.plan) (c : ThreadGhost)
   pub record IsOfOther (w : World) (event : Event) : Type 0 where
     pub sound : IsWellFormedWorld w
     pub of_others : IsOfOthers n event
-    pub moves : (hart : Hart) → slice_get w.harts n ≡ Some hart → MovesTo n w hart c.rest (after_event y.runs.program w event) c.rest
+    pub moves : (hart : Hart) → slice_get w.harts n ≡ Some hart → MovesTo n all_words w hart c.rest (after_event y.runs.program w event) c.rest
     pub agrees : (z : MarkedEnvironment) → AnswersGuarded y (now b.config) n z → Agrees y.runs.program w n z →
         Agrees y.runs.program (after_event y.runs.program w event) n z
 
@@ -389,12 +433,12 @@ module _ (y : System) (b : AbstractRun y) (code : Code y.plan) (c : ThreadGhost)
       here = λ hart there. same_hart ∙ there;
       moves = λ hart there.
           let moved = of.moves hart there in
-          subst (λ (x : Hart). Moves w.log n (config_of w hart c.rest) (config_of after x c.rest))
+          subst (λ (x : Hart). Moves w.log n all_words (config_of w hart c.rest) (config_of after x c.rest))
           (same_there (slice_get after.harts n) moved.next hart moved.there (same_hart ∙ there)) moved.moves;
       fragments = λ z answers stage steps o. others_keep_fragments y.plan code.thread code.is.places y.runs.program w n z stage steps _ event of.sound
           of.of_others o (of.agrees z answers o.agrees);
-      cores = λ at seen side registers o.
-          others_keep_cores y.plan code.thread code.is.places y.runs.program w n at seen side registers event of.sound of.of_others o;
+      cores = λ at seen view owed registers o.
+          others_keep_cores y.plan code.thread code.is.places y.runs.program w n at seen view owed registers event of.sound of.of_others o;
       reach = λ queue j position r. others_reach y.runs.program w n event of.sound of.of_others queue j position r;
       longer = others_last y.runs.program w n event of.sound of.of_others;
     }
@@ -402,7 +446,8 @@ module _ (y : System) (b : AbstractRun y) (code : Code y.plan) (c : ThreadGhost)
     -- where nothing happens to the source
     pub stands_still : ThreadInv y w b code c → ThreadInv y after b code c
     stands_still t =
-        stands_kept y b b code c (is_kept b.config b.execution b.respects (stays_unmoved (flat_of y) b.origin b.schedule b.config n)) w after is_left_alone t
+        stands_kept y b b code c (is_kept b.config b.execution b.respects (stays_unmoved (flat_of y) b.origin b.schedule b.config n)
+        (λ graph_thread is found at logged. refl)) w after is_left_alone t
 
     -- whatever another thread's step is to it
     pub led_on : (s : IsSystem y) (thread : ℕ) → n ≢ thread → (next : AbstractRun y) → StepsOrStutters y b thread next → ThreadInv y w b code c →
@@ -410,8 +455,9 @@ module _ (y : System) (b : AbstractRun y) (code : Code y.plan) (c : ThreadGhost)
     led_on s thread differs _ stays t = stands_still t
     led_on s thread differs _ (goes next h by execution respects) t =
         let r = (resumed y s b).resumed in
-        stands_kept y b (abstract_next y b next execution respects) code c (is_kept next execution respects
-        (unmoved_by (flat_of y) s.plan.formed b.origin b.schedule b.config r.invariant r.kept n thread differs next h by)) w after is_left_alone t
+        let unmoved = unmoved_by (flat_of y) s.plan.formed b.origin b.schedule b.config r.invariant r.kept n thread differs next h by in
+        stands_kept y b (abstract_next y b next execution respects) code c (is_kept next execution respects unmoved
+        (begun_alike y s b (abstract_next y b next execution respects) code.thread refl unmoved.begun)) w after is_left_alone t
 
 -- ---- Where memory is as it was
 
@@ -428,7 +474,8 @@ pub phase_moves : {y : System} {w : World} (v : World) {b : AbstractRun y} {code
     ThreadInv y v b code (record c { giving = giving; before_mark = before_mark })
 phase_moves {y} {w} v {b} {code} {c} giving before_mark gives t hart q phase =
     let n = code.thread.number in
-    stands_with y b b code c (is_kept y b code c b.config b.execution b.respects (stays_unmoved (flat_of y) b.origin b.schedule b.config n)) w v
+    stands_with y b b code c (is_kept y b code c b.config b.execution b.respects (stays_unmoved (flat_of y) b.origin b.schedule b.config n)
+    (λ graph_thread is found at logged. refl)) w v
     (λ queue j position. subst (λ (ws : List Word). PersistsThrough ws queue j position) (sym q.words))
     (λ j position. subst (λ (ws : List Word). position ≤ last_position (word_at ws j)) (sym q.words)) giving before_mark gives t
     (record { next = hart; there = q.here; log = q.log; moves = moves_nowhere w v n t.log.hart hart c.rest q.words q.queue }) q.queue phase

@@ -5,6 +5,14 @@ mod WorkedStores
 mod WorkedAccesses
 mod CompletedEffects
 mod LogWords
+mod FrameWords
+mod FrameFlushes
+mod AssignmentsAlike
+mod PointsInSections
+mod BeginningFrames
+mod FrameStores
+mod LoggedNodeSteps
+mod LocalStoreSteps
 mod StatesMatchSource
 mod StepsAfterMarks
 mod RecordsAfterCrash

@@ -1,21 +1,21 @@
 -- Where threads begin with whole bodies, in memory whose numbers are stable, the machine simulates an abstract run that begins there.
+use Rattle.crash_simulation.proofs.Common.{IsPlan, IsThread, Thread}
+use Rattle.crash_simulation.proofs.Common.{IsSectioned, LogView, inl, inr}
+use Rattle.expr_code.specs.declared.home.Home.TheVariants.{InFrame}
+use Rattle.flow_graph.specs.Liveness.{IsLive}
+use Rattle.machine_model.specs.Machine.{live_at}
+use Rattle.thread_code.specs.RegistersAtNodes.{frame_loads}
+use Rattle.recovered_threads.proofs.Public.{stands_in_word}
 use Rattle.crash_simulation.proofs.Common.{◌≡◌, ℕ, List, ◌∷◌, sym, ◌∙◌, ap, arith, subst, Option, Some, None, refl, suc, ◌+◌, ◌<◌, [], length, zero}
-use Rattle.crash_simulation.proofs.Common.{replicate, slice_get, map, ℤ, pos, add-zero, option_map, length-replicate}
-use Rattle.crash_simulation.proofs.Common.{none-some, same_Some, slice_get_within, slice_get-map, typed}
-use Rattle.crash_simulation.proofs.Common.{Kind, Holds-zero, first_world, Hart, World}
-use Rattle.crash_simulation.proofs.Common.{fresh_hart, numbers_from, start_of, code_start, Phase, Run, starts_simulate, Seen}
-use Rattle.crash_simulation.proofs.Common.{GraphThread, seen_by, graph_thread_start, lowered, parts, part, Action}
-use Rattle.crash_simulation.proofs.Common.{Store, Graph, Part}
-use Rattle.crash_simulation.proofs.Common.{starts_hold, zero_form, fresh_on_side, Attempt, now, attempt_of, Memory}
-use Rattle.crash_simulation.proofs.Common.{AreStable, first_config, memory_in, none_yet}
-use Rattle.crash_simulation.proofs.Common.{fresh_are_stable, Origin, free_at_boundaries, start_free}
-use Rattle.crash_simulation.proofs.Common.{start_origin, Program, config, LogInv, nothing_recorded}
-use Rattle.crash_simulation.proofs.Common.{starts_standing, HomeCarries, home_of, Home, InRegister, starts_are_short, Plan}
-use Rattle.crash_simulation.proofs.Common.{IsNodeOf, IsPendingIn, Enters, locals_are, Arrives, threads_start, Code}
-use Rattle.crash_simulation.proofs.Common.{between, HasGathered, AbstractRun, kept_of}
-use Rattle.crash_simulation.proofs.Common.{now_of, StartSimulates, Simulates, gathered}
-use Rattle.crash_simulation.proofs.Common.{IsMachineOf, most_ahead, System, IsSystem, thread_count, flat_of, places_of, ThreadGhost, on_fragment}
-use Rattle.crash_simulation.proofs.Common.{InPhase, ThreadInv, InFragment, IsChosen}
+use Rattle.crash_simulation.proofs.Common.{replicate, slice_get, map, ℤ, pos, add-zero, option_map, length-replicate, none-some, same_Some, slice_get_within}
+use Rattle.crash_simulation.proofs.Common.{slice_get-map, typed, Kind, Holds-zero, first_world, Hart, World, fresh_hart, numbers_from, start_of, code_start}
+use Rattle.crash_simulation.proofs.Common.{Phase, Run, starts_simulate, Seen, GraphThread, seen_by, graph_thread_start, lowered, parts, part, Action, Store}
+use Rattle.crash_simulation.proofs.Common.{Graph, Part, starts_hold, zero_form, fresh_on_side, Attempt, now, attempt_of, Memory, AreStable, first_config}
+use Rattle.crash_simulation.proofs.Common.{memory_in, none_yet, fresh_are_stable, Origin, free_at_boundaries, start_free, start_origin, Program, config}
+use Rattle.crash_simulation.proofs.Common.{LogInv, nothing_recorded, starts_standing, HomeCarries, home_of, Home, InRegister, starts_are_short, Plan}
+use Rattle.crash_simulation.proofs.Common.{IsNodeOf, IsPendingIn, Enters, locals_are, Arrives, threads_start, Code, between, HasGathered, AbstractRun}
+use Rattle.crash_simulation.proofs.Common.{kept_of, now_of, StartSimulates, Simulates, gathered, IsMachineOf, most_ahead, System, IsSystem, thread_count}
+use Rattle.crash_simulation.proofs.Common.{flat_of, places_of, ThreadGhost, on_fragment, InPhase, ThreadInv, InFragment}
 use Rattle.flow_graph.specs.Lowering.{thread_count as node_count}
 use Rattle.recovery_semantics.specs.Executions.{begins}
 use Rattle.c_tree.specs.Flats as f
@@ -23,9 +23,7 @@ use Rattle.c_tree.specs.Source as m
 use Rattle.crash_simulation.proofs.StatesMatchSource.{free_holds_none, none_holds, repeated_or}
 use Rattle.crash_simulation.proofs.RecordsAfterCrash.{over_is_caught}
 use Rattle.crash_simulation.proofs.StepsAfterMarks.{entry_soon}
-use Rattle.crash_simulation.proofs.ChosenNodes.{plain_unless_pending}
-use Rattle.crash_simulation.proofs.GraphAfterBegin.{matches_now}
-use Rattle.crash_simulation.proofs.LoadFreeEnvironment.{bare, bare_agrees, bare_meets, bare_answers, bare_just_read}
+use Rattle.crash_simulation.proofs.LoadFreeEnvironment.{bare, bare_agrees, bare_meets, bare_answers, bare_loaded}
 use Rattle.region_attempts.specs.Laws.{HoldsNothing}
 use Rattle.crash_simulation.proofs.SimulationAtStart.{resting_ghost, resting_thread}
 
@@ -47,6 +45,14 @@ part_has_nodes (t ∷ ts) first (suc n) own h = part_has_nodes ts (first + node_
 pub pending_free : (p : Plan) (action : Action) (seen : Seen) (x : List ℕ) → seen.pending ≡ None → IsPendingIn p action seen x
 pending_free p (Store variable kind next) seen x none = λ store h. absurd (none-some store (sym none ∙ h))
 pending_free p action seen x none = tt
+
+-- ---- What is live there
+
+-- no local that stands in the frame is live at a thread's first node
+none_live_first : (p : Plan) (plan : IsPlan p) (t : Thread) (is : IsThread p t) → (local word : ℕ) → home_of t.locals local ≡ InFrame word →
+    IsLive p.graph local t.part.first → ⊥
+none_live_first p plan t is local word home live =
+    plan.assigned_first (stands_in_word p plan t is local word home).2.frame t.number t.part is.nodes local live
 
 -- ---- What a life begins with
 
@@ -116,24 +122,27 @@ module _ (y : System) (s : IsSystem y) (o : Origin (flat_of y)) (v : World) (lif
   first_node : (code : Code y.plan) → IsNodeOf code.thread code.thread.part.first
   first_node code = record { from_first = omega arith; below_end = has_nodes code.thread.number code.thread.part (part_there code) }
 
-  zero_carried : (k : Kind) (home : Home) → HomeCarries (replicate 32 0) home (typed k (pos 0))
-  zero_carried k (InRegister register) = record { held = Holds-zero k; form = repeated_or 32 register 0 ∙ sym (zero_form k) }
+  -- the thread's log as memory has it
+  abbrev seen_log : LogView
+  seen_log = record { side = 0; frame = live_at v.words }
 
-  enters : (code : Code y.plan) → Enters y.plan code.thread code.thread.part.first (seen_by (now_of y abstract) (graph_thread code)) 0 (replicate 32 0)
+  -- a register has 0; a local that is live at the first node is in no word of the frame
+  zero_carried : (code : Code y.plan) (local : ℕ) (k : Kind) (home : Home) → home_of code.thread.locals local ≡ home →
+      IsLive y.plan.graph local code.thread.part.first → HomeCarries (frame_loads seen_log) (replicate 32 0) home (typed k (pos 0))
+  zero_carried code local k (InRegister register) at live = record { held = Holds-zero k; form = repeated_or 32 register 0 ∙ sym (zero_form k) }
+  zero_carried code local k (InFrame word) at live = absurd (none_live_first y.plan s.plan code.thread code.of local word at live)
+
+  enters : (code : Code y.plan) →
+      Enters y.plan code.thread code.thread.part.first (seen_by (now_of y abstract) (graph_thread code)) seen_log (replicate 32 0)
   enters code = record {
     at_side = fresh_on_side y.plan.log;
     count = length-replicate code.thread.part.locals (pos 0) ∙ locals_are y.plan code.thread s.plan code.of;
     locals = λ local k there live.
         let value = repeated_or code.thread.part.locals local (pos 0) in
-        subst (λ (z : ℤ). HomeCarries (replicate 32 0) (home_of code.thread.locals local) (typed k z)) (sym value)
-        (zero_carried k (home_of code.thread.locals local));
+        subst (λ (z : ℤ). HomeCarries (frame_loads seen_log) (replicate 32 0) (home_of code.thread.locals local) (typed k z)) (sym value)
+        (zero_carried code local k (home_of code.thread.locals local) refl live);
     pending = λ is at. pending_free y.plan is.action (seen_by (now_of y abstract) (graph_thread code)) (replicate 32 0) refl;
   }
-
-  -- a thread begins with no store pending
-  pub plain_first : (code : Code y.plan) → ¬ (IsChosen y.plan.graph y.plan.boundaries code.thread.part.first)
-  plain_first code =
-      plain_unless_pending y s (now_of y abstract) (now abstract.config) code.thread.number (matches_now y s abstract) (graph_thread code) (walks code) refl
 
   on_its_fragment : (n : ℕ) (below : n < thread_count y) (hart : Hart) → slice_get v.harts (s.codes.each n below).thread.number ≡ Some hart →
       InFragment y v abstract (s.codes.each n below) (ghosts n) hart (graph_thread (s.codes.each n below)) Arrives 0
@@ -146,12 +155,13 @@ module _ (y : System) (s : IsSystem y) (o : Origin (flat_of y)) (v : World) (lif
       record {
         environment = bare y s v n below;
         answers = bare_answers y s v n below (now abstract.config);
-        just_read = bare_just_read y s v n below abstract (ghosts n);
-        side = 0;
+        loaded = bare_loaded y s v n below abstract (ghosts n);
+        view = seen_log;
         at_side = λ none. absurd (none refl);
+        frame = λ word framed. refl;
         fragment =
             threads_start y.plan code.thread y.runs.program code.program code.is v number (bare y s v n below)
-            (seen_by (now_of y abstract) (graph_thread code)) 0 (replicate 32 0) (bare_meets y s v n below) (bare_agrees y s v n below) (first_node code)
+            (seen_by (now_of y abstract) (graph_thread code)) seen_log (replicate 32 0) (bare_meets y s v n below) (bare_agrees y s v n below) (first_node code)
             (record {
               hart = at.hart;
               here = at.here;
@@ -159,12 +169,17 @@ module _ (y : System) (s : IsSystem y) (o : Origin (flat_of y)) (v : World) (lif
               is = ap (λ (registers : List ℕ). config registers at.hart.pc) at.registers ∙ ap (config (replicate 32 0)) (at.pc ∙ start);
             })
             (enters code);
-        fits = (record { going = sym (none_done number); rest = refl; giving = refl; committed = refl }, refl, λ chosen. absurd (plain_first code chosen));
+        fits = (record { going = sym (none_done number); rest = refl; giving = refl; committed = refl }, refl, λ none. refl);
+        owes = tt;
         soon =
             let all = entry_soon y s n below code.thread.part.first (length hart.queue) (first_node code) (life.machine.short number hart here) in
             let is : most_ahead y number ≡ most_ahead y n = ap (most_ahead y) same in
             (omega (arith, all, is), omega (arith, is));
       }
+
+  outside : (n : ℕ) → IsSectioned (ghosts n) → ⊥
+  outside n (inl some) = some refl
+  outside n (inr both) = both.1 refl
 
   pub thread : (n : ℕ) (below : n < thread_count y) → ThreadInv y v abstract (s.codes.each n below) (ghosts n)
   thread n below =
@@ -177,7 +192,7 @@ module _ (y : System) (s : IsSystem y) (o : Origin (flat_of y)) (v : World) (lif
       let none = free_holds_none number 0 (kept_of y abstract).holders not_held in
       resting_thread y v abstract code nothing_recorded n (graph_thread code) log (between none refl) (none_done number) (walks code)
       (subst (λ (p : Phase). InPhase y v abstract code (ghosts n) log.hart (graph_thread code) p) runs
-      (on_fragment Arrives 0 (on_its_fragment n below log.hart log.here)))
+      (on_fragment Arrives 0 (on_its_fragment n below log.hart log.here))) (λ sectioned. absurd (outside n sectioned))
 
   pub all_run : (h : ℕ) (hart : Hart) → slice_get v.harts h ≡ Some hart → HasGathered v h nothing_recorded hart.phase
   all_run h hart there =

@@ -29,8 +29,7 @@ use Rattle.crash_simulation.proofs.BoundaryFences.{same_fences}
 use Rattle.crash_simulation.proofs.LifeAccounts.{all_between}
 use Rattle.crash_simulation.specs.AbstractRuns.{now_of}
 use Rattle.crash_simulation.specs.BoundaryPassages.{graph_anew}
-use Rattle.crash_simulation.specs.ThreadGhosts.{is_bound}
-use Rattle.crash_simulation.proofs.BoundaryPassages.{passages_ahead, points_ahead}
+use Rattle.crash_simulation.proofs.BoundaryPassages.{passages_ahead, points_ahead, told_of}
 use Rattle.crash_simulation.proofs.LifeBeginnings.{BeginsLife, life_stands}
 use Rattle.crash_simulation.proofs.FirstPassages.{first_even}
 use Rattle.crash_simulation.proofs.LivesBegin.{ends_between, life, origin, stands_anew}
@@ -47,7 +46,7 @@ pub record HasBegun (y : System) (s : IsSystem y) (v : World) (stands : Simulate
   -- the graph is at its start, but for the variables
   pub graph_is : now_of y stands.abstract ≡ graph_anew (flat_of y) stands.abstract.origin.source.variables
   -- no boundary is passed, and no point stored
-  pub even : (n : ℕ) → n < thread_count y → passages_ahead y stands.abstract n ≡ points_ahead y stands.abstract (is_bound (stands.ghosts n)) n
+  pub even : (n : ℕ) → n < thread_count y → passages_ahead y stands.abstract (told_of (stands.ghosts n)) n ≡ points_ahead y (stands.ghosts n)
 
 pub has_begun : (y : System) (s : IsSystem y) (o : Origin (flat_of y)) (v : World) (begins : BeginsLife y o v) → HasBegun y s v (life_stands y s o v begins)
 has_begun y s o v begins = record {

@@ -1,8 +1,8 @@
 -- An environment that answers no loads: a thread's code is met in it in any world, and a fragment that has come to its end is one in it.
 use Rattle.crash_simulation.proofs.Common.{◌≡◌, ℕ, List, ◌∷◌, sym, arith, subst, false, refl, ◌+◌, ◌<◌, [], length, Bool, ◌*◌, ◌^◌, slice_index_or}
 use Rattle.crash_simulation.proofs.Common.{cond-true, nat_tests, none-some, State, World, Effect, Program, MarkedEnvironment, Meets, seen_effects, Agrees}
-use Rattle.crash_simulation.proofs.Common.{environment_of, IsOnFragment, on_machine, Stage, ReadsVariables, IsPlaced, plans_are_placed, Code, System, IsSystem}
-use Rattle.crash_simulation.proofs.Common.{thread_count, IsOwnCode, AbstractRun, ThreadGhost, AnswersGuarded, AnswersJustRead}
+use Rattle.crash_simulation.proofs.Common.{environment_of, IsOnFragment, on_machine, Stage, ReadsOwn, IsPlaced, plans_are_placed, Code, System, IsSystem}
+use Rattle.crash_simulation.proofs.Common.{thread_count, IsOwnCode, AnswersGuarded, AbstractRun, ThreadGhost, AnswersLoaded}
 
 -- ---- A thread's code is met where it stands
 
@@ -34,16 +34,17 @@ module _ (y : System) (s : IsSystem y) (w : World) (n : ℕ) (below : n < thread
   pub bare_answers : (state : State) → AnswersGuarded y state code.thread.number bare
   bare_answers state address bytes value e = absurd (none-some value e)
 
-  pub bare_just_read : (b : AbstractRun y) (c : ThreadGhost) → AnswersJustRead y b code.thread.number c bare
-  bare_just_read b c address bytes value e = absurd (none-some value e)
+  pub bare_loaded : (b : AbstractRun y) (c : ThreadGhost) → AnswersLoaded y b code.thread.number c bare
+  bare_loaded b c address bytes value e = absurd (none-some value e)
 
-  pub bare_reads : ReadsVariables bare
+  pub bare_reads : ReadsOwn w.log code.thread.number bare
   bare_reads address bytes value e = absurd (none-some value e)
 
   pub placed : y.plan.log ≡ w.log → length w.harts ≡ thread_count y → IsPlaced y.plan code.thread code.is.places w.log (length w.harts)
   placed logs count =
       let same = s.codes.number n below in
-      plans_are_placed y.plan code.thread code.is.places w.log (length w.harts) s.plan code.of code.is.kept logs (omega (arith, below, count, same))
+      plans_are_placed y.plan code.thread code.is.places w.log (length w.harts) s.plan code.of code.is.live code.is.kept logs
+      (omega (arith, below, count, same))
       (subst (λ (p : Program). p.start + 4 * length p.code < 2 ^ 64) (sym code.is.of_program) (s.own n below).room)
 
   module _ (environment : MarkedEnvironment) (stage : Stage) (effects : List Effect)
@@ -52,5 +53,19 @@ module _ (y : System) (s : IsSystem y) (w : World) (n : ℕ) (below : n < thread
     pub none_ahead : effects ≡ []
     none_ahead = none_seen effects fragment.on.walks.1
 
+    -- it is one in any other environment that agrees
+    pub resettled_in : (z : MarkedEnvironment) → Meets code.is.places.program z → Agrees y.runs.program w code.thread.number z →
+        IsOnFragment y.plan code.thread code.is.places (on_machine y.runs.program w code.thread.number z) stage 0 []
+    resettled_in z meets agrees = record {
+      meets = meets;
+      agrees = agrees;
+      apart = tt;
+      own = fragment.own;
+      of_graph = fragment.of_graph;
+      registers = fragment.registers;
+      on = record { hart = fragment.on.hart; here = fragment.on.here; runs = fragment.on.runs; walks = (fragment.on.walks.0, refl); may = tt };
+      has = fragment.has;
+    }
+
     pub resettled : IsOnFragment y.plan code.thread code.is.places (on_machine y.runs.program w code.thread.number bare) stage 0 []
-    resettled = grind (arith, nat_tests, cond-true, none-some)
+    resettled = resettled_in bare bare_meets bare_agrees

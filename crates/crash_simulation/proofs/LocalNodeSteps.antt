@@ -10,13 +10,20 @@ use Rattle.crash_simulation.proofs.PendingFlushes.{ComesNow}
 use Rattle.crash_simulation.proofs.NodeEffects.{is_quiet, source_steps, locks_none, unlocks_none, ahead_none}
 use Rattle.crash_simulation.proofs.ConfigAfterBegin.{one_longer, attempted, alone_ahead, done_longer, wrote}
 use Rattle.crash_simulation.proofs.GraphAfterBegin.{matches_now, follows_on, not_come}
-use Rattle.crash_simulation.proofs.NodeEnvironments.{reads_variables, answers_guarded, guards_here, answered_here, just_read}
+use Rattle.crash_simulation.proofs.NodeEnvironments.{answered_here, answers_guarded, frame_answered, guards_here, reads, reads_own}
+use Rattle.crash_simulation.proofs.NodeEnvironments.{node_loaded}
 use Rattle.crash_simulation.proofs.OwnHartSteps.{view, StepOf, AtNode}
-use Rattle.crash_simulation.proofs.MarksAtNodes.{IsUnseen, unseen, quiet_may, quiet_seen, quiet_free, Doing, MarkIn, AtMark, Passes, environment, in_graph}
-use Rattle.crash_simulation.proofs.MarksAtNodes.{graph_step_is, at_some_mark}
-use Rattle.crash_simulation.proofs.MarkSteps.{is_plain, plain_holders, flushed_on, flushed_passed, passed_record, passed_step, is_next}
+use Rattle.crash_simulation.proofs.MarksAtNodes.{IsUnlogged, IsUnseen, unseen, quiet_may, quiet_seen, quiet_free, Doing, MarkIn, AtMark, Passes, environment}
+use Rattle.crash_simulation.proofs.MarksAtNodes.{in_graph, graph_step_is, at_some_mark}
+use Rattle.crash_simulation.proofs.MarkSteps.{is_plain, plain_holders, flushed_on, flushed_passed, frames_passed, passed_frame, passed_record, passed_step}
+use Rattle.crash_simulation.proofs.MarkSteps.{is_next, stays_all}
 use Rattle.crash_simulation.proofs.StatesMatchSource.{resumed}
-use Rattle.crash_simulation.proofs.Loads.{reads_all}
+use Rattle.crash_simulation.proofs.Common.{◌∷◌, HasView, Home, InRegister, IsElsewhere, LockName, Step, held_names_before, home_of, in_frame, log_stays}
+use Rattle.expr_code.specs.declared.home.Home.TheVariants.{InFrame}
+use Rattle.flow_graph.specs.Actions as a
+use Rattle.crash_simulation.proofs.FrameWords.{all_named, all_words}
+use Rattle.crash_simulation.proofs.PointsInSections.{point_outside}
+use Rattle.crash_simulation.proofs.ThreadViews.{describes_over, view_persists}
 use Rattle.crash_simulation.proofs.ThreadViews.{none_clean}
 use Rattle.crash_simulation.proofs.WriteBackSteps.{mark_step}
 use Rattle.crash_simulation.proofs.MarkSteps as passing
@@ -31,9 +38,11 @@ pub record DoesQuietly (node : Node) (seen : Seen) : Type 0 where
   pub quiet : is_quiet e ≡ true
 
 module _ {y : System} {s : IsSystem y} {w : World} {h : ℕ} (site : AtNode y s w h) (node : Node)
-    (at : NodeAt (lowered (flat_of y)) (view site.hart).graph_thread.at node) (quietly : DoesQuietly node (view site.hart).seen) where
+    (at : NodeAt (lowered (flat_of y)) (view site.hart).graph_thread.at node) (quietly : DoesQuietly node (view site.hart).seen)
+    (unlogged : IsUnlogged y.plan (view site.hart).code.thread (view site.hart).graph_thread.at quietly.e) where
   open view site.hart use {b, code, c, t, n, v, places, graph_thread, seen}
   open quietly use {e, does, quiet}
+  open site.core.goes.goes use {going}
 
   abbrev doing : Doing site
   doing = record {
@@ -42,12 +51,13 @@ module _ {y : System} {s : IsSystem y} {w : World} {h : ℕ} (site : AtNode y s 
     effect = e;
     free = quiet_free e quiet;
     does = does;
-    reads = reads_all (flat_of y).variables (reads_of node.action seen);
+    reads = reads site.hart (reads_of node.action seen);
   }
 
   pub mark : MarkIn site doing
-  mark = at_some_mark site doing (reads_variables site (reads_of node.action seen)) (answered_here site node at)
-      (quiet_may y.plan code.thread places w.log (length w.harts) (environment site doing) e quiet)
+  mark = at_some_mark site doing (reads_own site.hart (reads_of node.action seen))
+      (λ none. (answered_here site.hart going node at, frame_answered site.hart (reads_of node.action seen) site.core.view site.core.frame graph_thread.at))
+      (quiet_may y.plan code.thread places w.log (length w.harts) (environment site doing) graph_thread.at e quiet unlogged)
 
   abbrev at_mark : AtMark site
   at_mark = record { doing = doing; mark = mark }
@@ -76,7 +86,7 @@ module _ {y : System} {s : IsSystem y} {w : World} {h : ℕ} (site : AtNode y s 
   })
 
   minded : HasCome (flat_of y) y.plan.boundaries (kept_of y b) b.config n → ⊥
-  minded = grind (arith, is_quiet, not_come, true≢false)
+  minded = not_come y s b n site.core.goes.goes.going t.walks at does (λ mutex next is. true≢false (sym quiet ∙ ap is_quiet is)) site.core.fresh
 
   -- the step writes nothing
   none_written : (u i : ℕ) → WritesAt b.config.kept n (attempt_of b.config n).done u i → ⊥
@@ -88,7 +98,25 @@ module _ {y : System} {s : IsSystem y} {w : World} {h : ℕ} (site : AtNode y s 
 
   module _ (p : Passes site at_mark) where
     nothing_seen : IsUnseen w.log n p.forward.effect p.later
-    nothing_seen = unseen w.log n p.forward.effect p.later mark.effects (quiet_seen site at_mark quiet) p.effects_are
+    nothing_seen = unseen w.log n p.forward.effect p.later mark.effects (quiet_seen site at_mark quiet unlogged).0 p.effects_are
+
+    elsewhere : IsElsewhere y.runs.program w all_words n n
+    elsewhere = stores_nothing y.runs.program all_words w n n mark.at.on.hart p.forward.effect (is_next site at_mark p) nothing_seen.no_store
+
+    -- a local that is stored outside sections: no record has a point
+    point_none : passing.SetsLater site e → c.new.point ≡ 0
+    point_none later = point_outside y s b code going graph_thread t.walks site.core.core.own c.new
+        (describes_over y b code c t.records site.core.goes.goes.committed) (none_held e later)
+      where
+        set_none : (home : Home) (held : List LockName) → passing.SetsIn home held → held ≡ []
+        set_none (InRegister register) held later = absurd later
+        set_none (InFrame word) [] later = refl
+        set_none (InFrame word) (name ∷ held) later = absurd later
+
+        none_held : (f : Effect) → passing.SetsLater site f → held_names_before y.plan code.thread graph_thread.at ≡ []
+        none_held (a.Sets local number to) later =
+            set_none (home_of code.thread.locals local) (held_names_before y.plan code.thread graph_thread.at) later
+        none_held f later = absurd later
 
     abbrev passed : passing.Passing site
     passed = record {
@@ -99,7 +127,13 @@ module _ {y : System} {s : IsSystem y} {w : World} {h : ℕ} (site : AtNode y s 
       later = nothing_seen.later_is;
       clean = none_clean;
       ends = λ ends. refl;
-      elsewhere = stores_nothing y.runs.program w n n mark.at.on.hart p.forward.effect (is_next site at_mark p) nothing_seen.no_store;
+      sets_later = λ later. (refl, point_none later);
+      frame = subst (HasView v n) (sym (quiet_seen site at_mark quiet unlogged).1)
+          (view_persists w v n site.core.view (log_stays y.runs.program w (Step n) site.hart.stands.machine.sound) (stays_all site at_mark p elsewhere)
+          site.core.frame);
+      named = all_words;
+      among = all_named w.log c.new t.log.log.follows.new_is;
+      elsewhere = elsewhere;
       may = nothing p.forward.effect nothing_seen.no_store;
       no_point = nothing_seen.no_point;
       no_fence = nothing_seen.no_fence;
@@ -120,7 +154,7 @@ module _ {y : System} {s : IsSystem y} {w : World} {h : ℕ} (site : AtNode y s 
 
     guards : (one : Element) → Contains (reads_of node.action seen) one → Guards (flat_of y) (now next.config) n one.variable one.element
     guards one of =
-        let old = guards_here site node at one of in
+        let old = guards_here site.hart going node at one of in
         let holders : (now next.config).holders ≡ (now b.config).holders =
         sym (matches_now y s next).holders ∙ ap (λ (z : FlowState). z.holders) (passing.state site passed)
         ∙ plain_holders (now_of y b) n graph_thread e (quiet_plain e quiet) ∙ (matches_now y s b).holders in
@@ -132,7 +166,7 @@ module _ {y : System} {s : IsSystem y} {w : World} {h : ℕ} (site : AtNode y s 
     quiet_passes : StepOf site.hart n
     quiet_passes =
         passed_step site passed
-        (answers_guarded site (reads_of node.action seen) (now next.config) guards)
+        (answers_guarded site.hart (reads_of node.action seen) (now next.config) guards)
         (λ u i. flushed_passed site passed u i (none_written u i) (λ position since. since) no_clean)
         (λ word position is.
         let same : (view site.hart).c.last_stores word ≡ Some position =
@@ -142,14 +176,16 @@ module _ {y : System} {s : IsSystem y} {w : World} {h : ℕ} (site : AtNode y s 
           | durable_there low ↦ durable_there (step_durable y.runs.program w n site.hart.stands.machine.sound word position low)
           | comes_with u i f at low ↦ comes_with u i (flushed_on site passed u i (λ position since. since) no_clean f) at low
           | recorded_in among low ↦ passed_record site passed word position among low
+          | in_frame own framed at low ↦ passed_frame site passed own word position framed at low
         ])
-        (just_read site node at next (passing.new site passed) (passing.goes_next site passed) (sym (done_longer b.config n)) (λ one r. r))
-        (λ variable number address bytes byte unbound writes element_at from to.
+        (node_loaded site.hart going node at next (passing.new site passed) (passing.goes_next site passed) (sym (done_longer b.config n)) (λ one r. r))
+        (λ variable number byte writes of.
         elim (wrote b.config.kept n (attempt_of b.config n).done variable number
         (subst (λ (k : ℕ). Writes b.config.kept n k variable number) (done_longer b.config n) writes)) [
           | inl old ↦ inl old
           | inr at_once ↦ absurd (none_written variable number at_once)
         ])
+        (frames_passed site passed (λ own framed. inl (stays_all site at_mark p elsewhere own framed)))
 
   pub quiet_step : MarksPass → StepOf site.hart n
   quiet_step marks = mark_step site at_mark marks quiet_passes

@@ -1,19 +1,40 @@
 -- A hart at its call, and at one that asks for a mutex: it takes it, or waits.
-use Rattle.crash_simulation.proofs.Common.{◌≡◌, ◌≢◌, ℕ, List, ◌∷◌, sym, ◌∙◌, ap, arith, subst, true, false, Option, Some, None, refl, suc, ◌+◌, ◌<◌, [], ◌++◌}
-use Rattle.crash_simulation.proofs.Common.{length, Bool, inl, inr, ◌==◌, slice_get, ◌&&◌, not, true≢false, length-set, ◌≤◌, ℤ, ⊎_elim, Contains, is_none}
-use Rattle.crash_simulation.proofs.Common.{cond-false, nat_tests, none-some, same_Some, slice_get_within, holds_none, held_from, Step, LockName, locks}
-use Rattle.crash_simulation.proofs.Common.{locks_same, Hart, World, happens, Outcome, with_holder, moved, gone_on, Effect, Calls, row, is_running, stores_point}
-use Rattle.crash_simulation.proofs.Common.{Ecall, Phase, get-set_same, GraphThread, FlowState, Action, Lock, End, successors, get_cases, set_same, no_more}
-use Rattle.crash_simulation.proofs.Common.{Boundary, boundary_effects, side_after, solo, now, attempt_of, Invariant, begun, ConfigStep, synchronises}
-use Rattle.crash_simulation.proofs.Common.{Synchronises, HasUnlocked, HasLocked, memory_in, counted_own, unequal_of, goes_alone, left_is_free, held_before}
-use Rattle.crash_simulation.proofs.Common.{MarkedEnvironment, recorded_by, LogInv, Record, IsElsewhere, IsNext, stores_nothing, one_effect, side_follows}
-use Rattle.crash_simulation.proofs.Common.{boundaries_fence, steps_keep, boundary_stores, takes, IsAtCall, calls_count, effect_is, queues_stay_short, keeping}
-use Rattle.crash_simulation.proofs.Common.{IsCalling, Enters, IsLockOf, ExitPoint, IsOnFragment, on_machine, Asks, Took, IsPlaced, TakesMutex, call_there}
-use Rattle.crash_simulation.proofs.Common.{fragments_see_all, cleans_on, locks_take, locks_wait, few_cleans, Code, Describes, past_lock, same_there}
-use Rattle.crash_simulation.proofs.Common.{holds_none_is, AbstractRun, kept_of, now_of, is_bound, was_unlocked, Site, nothing_released, stays, MayStore}
-use Rattle.crash_simulation.proofs.Common.{nothing, goes, OnFragmentNow, abstract_next, thread_of, begins_step, AreHeld, most_ahead, System, IsSystem}
-use Rattle.crash_simulation.proofs.Common.{thread_count, flat_of, places_of, ThreadGhost, on_fragment, InPhase, ThreadInv, GoesClean, InFragment}
-use Rattle.crash_simulation.proofs.Common.{finishes_fence, boundary_fences, AreFencesCounted, last_store_after, first_access_after, config_of, durable_there}
+use Rattle.crash_simulation.proofs.Common.{cond-true, is_some, node_of, option_map, steps_begun}
+use Rattle.crash_simulation.specs.InstructionSteps.{IsTold}
+use Rattle.crash_simulation.specs.ThreadGhosts.{tells_write}
+use Rattle.crash_simulation.proofs.ChosenNodes.{chosen_writes}
+use Rattle.crash_simulation.proofs.ReadyHarts.{lock_plain}
+use Rattle.crash_simulation.proofs.Common.{is_empty}
+use Rattle.log_states.proofs.Public.{points_end}
+use Rattle.crash_simulation.proofs.LastReleases.{holds_some}
+use Rattle.crash_simulation.proofs.Common.{◌∷◌, ◌⊎◌, ◌/◌, ◌*◌, ◌==◌, pos, Cleans, IsFrameFlushed, IsFrameWord, IsSectioned, Log, MovesTo, after_lock}
+use Rattle.crash_simulation.proofs.Common.{contains_none, fences_ahead, frame_ahead, frame_at, frame_in, held_names_before, last_position, log_stays}
+use Rattle.crash_simulation.proofs.Common.{opens_section, steps_move, the_entry, view_after, words_in, Bool}
+use Rattle.crash_simulation.proofs.BeginningFrames.{boundary_cleans, frame_comes, opening_cleans}
+use Rattle.crash_simulation.proofs.CompletedEffects.{step_last}
+use Rattle.crash_simulation.proofs.FrameFlushes.{frame_still}
+use Rattle.crash_simulation.proofs.FrameWords.{all_words}
+use Rattle.crash_simulation.proofs.LoadFreeEnvironment.{resettled_in}
+use Rattle.crash_simulation.proofs.NodeEnvironments.{agrees_here, frame_answered, frame_guarded, meets_here, placed_here, reading, reads, reads_own}
+use Rattle.crash_simulation.proofs.NodeEnvironments.{frame_loaded}
+use Rattle.crash_simulation.proofs.PendingFlushes.{frames_stay}
+use Rattle.crash_simulation.proofs.PointsInSections.{point_held, point_where}
+use Rattle.crash_simulation.proofs.ThreadViews.{frame_stays, log_moved, view_stays}
+use Rattle.crash_simulation.proofs.Common.{◌≡◌, ◌≢◌, ℕ, List, sym, ◌∙◌, ap, arith, subst, true, false, Option, Some, None, refl, suc, ◌+◌, ◌<◌, [], ◌++◌}
+use Rattle.crash_simulation.proofs.Common.{length, inl, inr, slice_get, ◌&&◌, not, true≢false, length-set, ◌≤◌, ℤ, ⊎_elim, Contains, is_none, cond-false}
+use Rattle.crash_simulation.proofs.Common.{nat_tests, none-some, same_Some, slice_get_within, holds_none, held_from, Step, LockName, locks, locks_same, Hart}
+use Rattle.crash_simulation.proofs.Common.{World, happens, Outcome, with_holder, moved, gone_on, Effect, Calls, row, is_running, stores_point, Ecall, Phase}
+use Rattle.crash_simulation.proofs.Common.{get-set_same, GraphThread, FlowState, Action, Lock, End, successors, get_cases, set_same, no_more, Boundary}
+use Rattle.crash_simulation.proofs.Common.{boundary_effects, solo, now, attempt_of, Invariant, begun, ConfigStep, synchronises, Synchronises, HasUnlocked}
+use Rattle.crash_simulation.proofs.Common.{HasLocked, memory_in, counted_own, unequal_of, goes_alone, left_is_free, held_before, MarkedEnvironment}
+use Rattle.crash_simulation.proofs.Common.{recorded_by, LogInv, Record, IsElsewhere, IsNext, stores_nothing, one_effect, side_follows, boundaries_fence}
+use Rattle.crash_simulation.proofs.Common.{boundary_stores, takes, IsAtCall, calls_count, effect_is, queues_stay_short, keeping, IsCalling, Enters, IsLockOf}
+use Rattle.crash_simulation.proofs.Common.{ExitPoint, IsOnFragment, on_machine, Asks, Took, TakesMutex, call_there, fragments_see_all, cleans_on, locks_take}
+use Rattle.crash_simulation.proofs.Common.{locks_wait, Code, Describes, same_there, holds_none_is, AbstractRun, kept_of, now_of, is_bound, was_unlocked, Site}
+use Rattle.crash_simulation.proofs.Common.{nothing_released, stays, MayStore, nothing, goes, OnFragmentNow, abstract_next, thread_of, begins_step, AreHeld}
+use Rattle.crash_simulation.proofs.Common.{most_ahead, System, IsSystem, thread_count, flat_of, places_of, ThreadGhost, on_fragment, InPhase, ThreadInv}
+use Rattle.crash_simulation.proofs.Common.{GoesClean, InFragment, finishes_fence, boundary_fences, AreFencesCounted, last_store_after, first_access_after}
+use Rattle.crash_simulation.proofs.Common.{config_of, durable_there}
 use Rattle.crash_simulation.specs.InstructionSteps as moving
 use Rattle.crash_simulation.proofs.BoundaryFences.{begins_fences, same_fences}
 use Rattle.log_states.proofs.Public.{ends}
@@ -23,7 +44,7 @@ use Rattle.crash_simulation.proofs.LogWords.{recorded_settled}
 use Rattle.crash_simulation.proofs.LastReleases.{no_release, holders_stay_none, none_leaving, and_none}
 use Rattle.crash_simulation.proofs.StatesMatchSource.{resumed, kept_matches, orderly, now_orderly, now_good}
 use Rattle.crash_simulation.proofs.Boundaries.{after_lock_in, IsBeginning, BoundaryIsRecoverable, boundaries_begin}
-use Rattle.crash_simulation.proofs.LoadFreeEnvironment.{bare, bare_answers, bare_just_read, bare_reads, placed, none_ahead, resettled}
+use Rattle.crash_simulation.proofs.LoadFreeEnvironment.{none_ahead}
 use Rattle.crash_simulation.proofs.LocksAtCalls.{locks_it, mutex_there, taken, takes_it, source_takes}
 use Rattle.crash_simulation.proofs.PendingFlushes.{Passage, stored_same, still_reached, reaches_same}
 use Rattle.crash_simulation.proofs.OwnHartSteps.{log_begins, step_to, view, StepOf, held_still, own_giving, locks_to}
@@ -66,17 +87,14 @@ module _ {y : System} {s : IsSystem y} {w : World} {h : ℕ} {exit : ExitPoint} 
   open view at.site use {b, code, c, t, n, v, places, graph_thread, seen}
 
   abbrev pub z : MarkedEnvironment
-  z = bare y s w h at.site.below
+  z = reading at.site []
 
   abbrev pub FragmentTo : MarkedEnvironment → ExitPoint → (steps : ℕ) → List Effect → Type 0
   FragmentTo x to steps effects = IsOnFragment y.plan code.thread places (on_machine y.runs.program w n x)
-      (record { exit = to; node = graph_thread.at; seen = seen; side = at.o.side }) steps effects
+      (record { exit = to; node = graph_thread.at; seen = seen; view = at.o.view }) steps effects
 
   pub invariant : Invariant (flat_of y) b.config
   invariant = (resumed y s b).resumed.invariant
-
-  pub placed_here : IsPlaced y.plan code.thread places w.log (length w.harts)
-  placed_here = placed y s w h at.site.below at.site.stands.machine.log at.site.stands.machine.count
 
   pub exists_now : n < length (now_of y b).graph_threads
   exists_now = slice_get_within (now_of y b).graph_threads n graph_thread t.walks
@@ -96,7 +114,8 @@ module _ {y : System} {s : IsSystem y} {w : World} {h : ℕ} {exit : ExitPoint} 
 
   -- nothing is ahead, and no answer counts
   pub fragment_over : FragmentTo z exit 0 []
-  fragment_over = resettled y s w h at.site.below at.o.environment _ (c.cleans ++ c.rest) at.o.fragment
+  fragment_over = resettled_in y s w h at.site.below at.o.environment _ (c.cleans ++ c.rest) at.o.fragment z (meets_here at.site (reads at.site []))
+      (agrees_here at.site (reads at.site []))
 
   pub none_left : c.cleans ++ c.rest ≡ []
   none_left = none_ahead y s w h at.site.below at.o.environment _ (c.cleans ++ c.rest) at.o.fragment
@@ -129,8 +148,8 @@ module _ {y : System} {s : IsSystem y} {w : World} {h : ℕ} {exit : ExitPoint} 
     pub accesses_still : (byte : ℕ) → c.first_accesses byte ≡ first_access_after y.runs.program w (Step n) n byte (c.first_accesses byte)
     accesses_still byte = accessed_by y.runs.program w n byte (c.first_accesses byte) a.hart Calls calls_next refl
 
-    pub call_elsewhere : IsElsewhere y.runs.program w n n
-    call_elsewhere = stores_nothing y.runs.program w n n a.hart Calls calls_next refl
+    pub call_elsewhere : IsElsewhere y.runs.program w all_words n n
+    call_elsewhere = stores_nothing y.runs.program all_words w n n a.hart Calls calls_next refl
 
     pub points_none : stores_point y.runs.program w (Step n) n ≡ (not (is_bound c) && is_bound c)
     points_none = (calls_count y.runs.program w n number a).1 ∙ not_twice (is_bound c)
@@ -168,7 +187,7 @@ module _ {y : System} {s : IsSystem y} {w : World} {h mutex next : ℕ} (at : At
   asks = fragment_over at
 
   goes_clean : GoesClean y b.config n c false graph_thread
-  goes_clean = at.o.fits
+  goes_clean = at.o.fits.0
 
   pub lock_here : IsLockOf y.plan code.thread graph_thread.at graph_thread.locals mutex next
   lock_here = asks.of_graph
@@ -183,7 +202,7 @@ module _ {y : System} {s : IsSystem y} {w : World} {h mutex next : ℕ} (at : At
   waits : (holder : ℕ) → slice_get w.holders mutex ≡ Some (Some holder) → StepOf at.site n
   waits holder has =
       let l = locks_wait calls_count y.plan code.thread y.runs.program code.program code.is w n (z at) graph_thread.at mutex next
-      seen at.o.side [] holder asks has in
+      seen at.o.view [] holder asks has in
       let still : v ≡ w = ap (λ (x : Outcome). x.0) l.0 in
       let goes_on : (u : ThreadInv y w b code c) × GoneOn u.log.hart.phase =
       (t, subst (λ (x : Hart). GoneOn x.phase) (hart_is at) (subst GoneOn (sym asks.on.runs) tt)) in
@@ -204,6 +223,8 @@ module _ {y : System} {s : IsSystem y} {w : World} {h mutex next : ℕ} (at : At
           bound = λ e. e;
           fences = fences_still at at_lock;
           nears = moving.waits mutex holder l.0 refl;
+          told = refl;
+          begins_told = λ no. absurd (true≢false (sym no));
           last = last_still at at_lock;
           accesses = accesses_still at at_lock;
         };
@@ -213,12 +234,12 @@ module _ {y : System} {s : IsSystem y} {w : World} {h mutex next : ℕ} (at : At
   -- the mutex is free
   module _ (free : slice_get w.holders mutex ≡ Some None) where
     it : TakesMutex y.plan code.thread places (on_machine y.runs.program w n (z at)) mutex next
-        (record { exit = Asks mutex next; node = graph_thread.at; seen = seen; side = at.o.side }) asks.on.hart asks.registers
+        (record { exit = Asks mutex next; node = graph_thread.at; seen = seen; view = at.o.view }) asks.on.hart asks.registers
     it = locks_take calls_count y.plan code.thread y.runs.program code.program code.is w n (z at) graph_thread.at mutex next
-        seen at.o.side [] (placed_here at) (bare_reads y s w h at.site.below) asks free
+        seen at.o.view [] (placed_here at.site) (reads_own at.site []) asks (frame_answered at.site [] at.o.view at.o.frame next) free
 
     abbrev b_next : Boundary
-    b_next = keeping y.plan code.thread places graph_thread.locals next
+    b_next = keeping y.plan code.thread places (opens_section y.plan code.thread places graph_thread.at) graph_thread.locals next
 
     abbrev resume : ℕ
     resume = places.after graph_thread.at
@@ -284,36 +305,54 @@ module _ {y : System} {s : IsSystem y} {w : World} {h mutex next : ℕ} (at : At
 
     -- ---- The boundary after the lock begins
 
-    beginning : IsBeginning y.plan code (now_of y then_abstract) at.o.side resume asks.registers
+    beginning : IsBeginning y.plan code (now_of y then_abstract) b_next at.o.view resume asks.registers
     beginning = record {
       graph_thread = moved_thread;
       there = walks;
       goes_on = goes_clean.execution;
       own = it.on.on.own;
-      resumes = λ some. past_lock graph_thread.at lock_here.lock lock_here.is lock_here.own lock_here.at lock_here.locks;
-      enters = subst (λ (vs : List (List ℤ)). Enters y.plan code.thread next
-          (record { locals = graph_thread.locals; pending = graph_thread.pending; variables = vs }) at.o.side asks.registers)
+      place = the_entry;
+      boundary = after_lock graph_thread.at lock_here.lock lock_here.is lock_here.own lock_here.at lock_here.locks;
+      owed = pos 0;
+      may = subst (λ (vs : List (List ℤ)). Enters y.plan code.thread next
+          (record { locals = graph_thread.locals; pending = graph_thread.pending; variables = vs }) at.o.view asks.registers)
           (sym (ap (λ (x : FlowState). x.variables) now_is)) asks.has.enters;
-      address =
-          after_lock_in y s h at.site.below w (z at) at.o.side seen asks.registers graph_thread.at mutex next asks.meets
-          asks.agrees lock_here it.on.on.own asks.has.enters;
+      address = after_lock_in y s h at.site.below graph_thread.at graph_thread.locals mutex next lock_here;
     }
 
-    begins_there : BoundaryIsRecoverable y.plan code (now_of y then_abstract) graph_thread.locals next at.o.side resume asks.registers
+    begins_there : BoundaryIsRecoverable y.plan code (now_of y then_abstract) b_next next the_entry at.o.view resume asks.registers
     unfolding beginning
-    begins_there =
-        boundaries_begin code s.plan (now_orderly y s then_abstract) (now_good y s then_abstract) beginning
+    begins_there = boundaries_begin code s.plan (now_orderly y s then_abstract) (now_good y s then_abstract) beginning
+
+    abbrev frame : ℕ → ℕ
+    frame = words_in y.plan.log n at.o.view
+
+    abbrev then_record : Record
+    then_record = recorded_by b_next begins_there.framed frame at.o.view.side resume asks.registers
 
     abbrev then_ghost : ThreadGhost
-    then_ghost = begins_with c (recorded_by b_next at.o.side resume asks.registers) (boundary_effects b_next at.o.side resume asks.registers) None
-        (most_ahead y n)
+    then_ghost = begins_with c then_record (boundary_effects b_next at.o.view.side resume asks.registers) None (most_ahead y n)
+
+    -- the boundary opens a section, or the thread is in one
+    opens_or_inside : (b_next.opens ≡ true) ⊎ (c.new.point ≢ 0)
+    opens_or_inside = by (held_names_before y.plan code.thread graph_thread.at) refl
+      where
+        by : (names : List LockName) → held_names_before y.plan code.thread graph_thread.at ≡ names → (b_next.opens ≡ true) ⊎ (c.new.point ≢ 0)
+        by [] none = inl (ap (λ (names : List LockName). length names == 0) none)
+        by (name ∷ names) some = inr (point_held y s b code goes_clean.goes.going graph_thread t.walks asks.own c.new (describes_new at)
+            (λ none. (let both = sym some ∙ none in cc)))
+
+    log_first : LogInv n c.new then_record w then_ghost.rest
+    log_first = log_begins at.site b_next refl refl begins_there.framed frame at.o.view.side resume asks.registers (rest_over at) asks.has.enters.at_side
+        at.o.at_side begins_there.recoverable
+        (frame_comes at.site b_next refl refl begins_there.framed at.o.view at.o.frame begins_there.exist (none_left at) (λ locked. opens_or_inside))
+
+    moves_then : MovesTo n all_words w log_first.hart then_ghost.rest v then_ghost.rest
+    moves_then = steps_move y.runs.program all_words w n n log_first.hart then_ghost.rest at.site.stands.machine.sound log_first.here
+        (call_elsewhere at at_lock)
 
     log_then : LogInv n c.new then_ghost.new v then_ghost.rest
-    log_then =
-        steps_keep y.runs.program n n c.new then_ghost.new w then_ghost.rest at.site.stands.machine.sound
-        (log_begins at.site graph_thread.locals next at.o.side resume asks.registers (rest_over at) asks.has.enters.at_side at.o.at_side
-        begins_there.recoverable)
-        (call_elsewhere at at_lock)
+    log_then = log_moved log_first moves_then
 
     open it.on.on.on use {hart as new}
 
@@ -338,35 +377,80 @@ module _ {y : System} {s : IsSystem y} {w : World} {h mutex next : ℕ} (at : At
               ∙ locks_it y s b code graph_thread t.walks mutex next lock_here;
         }
 
+    abbrev passage : Passage y code
+    passage = step_to at.site v (b.config.uncommitted ++ n ∷ []) b.config.memory b.config.attempts (leads_on y b _ happened refl tt) then_ghost new
+
     then_fragment : InFragment y v then_abstract code then_ghost new moved_thread (Took graph_thread.at) it.on.steps
     then_fragment = record {
       environment = z at;
-      answers = bare_answers y s w h at.site.below (now then_abstract.config);
-      just_read = bare_just_read y s w h at.site.below then_abstract then_ghost;
-      side = side_after b_next at.o.side;
-      at_side = side_follows b_next at.o.side resume asks.registers begins_there.recoverable;
+      answers = frame_guarded at.site (now then_abstract.config);
+      loaded = frame_loaded at.site then_abstract then_ghost;
+      view = view_after b_next at.o.view;
+      at_side = side_follows b_next begins_there.framed frame at.o.view.side resume asks.registers begins_there.recoverable;
+      frame = view_stays log_first moves_then at.o.view at.o.frame;
       fragment = fragments_see_all y.plan code.thread places y.runs.program v n (z at)
-          (record { exit = Took graph_thread.at; node = next; seen = seen; side = side_after b_next at.o.side }) it.on.steps
+          (record { exit = Took graph_thread.at; node = next; seen = seen; view = view_after b_next at.o.view }) it.on.steps
           then_ghost.rest (now_of y then_abstract).variables it.on.on;
       fits = record {
         execution = goes_clean.execution;
         cleans = refl;
         gives = refl;
+        written = refl;
         before = λ no. (mutex, locked);
         after = λ yes. absurd (true≢false (sym yes));
       };
+      owes = tt;
       soon =
           let queue : length new.queue ≤ 16 =
           queues_stay_short y.runs.program w (Step n) at.site.stands.machine.short n new it.on.on.on.here in
           let fit = fits_by y s h at.site.below graph_thread.at lock_here.is lock_here.own lock_here.at next it.on.on.own
           (subst (λ (x : Action). Contains (successors x) next) (sym lock_here.locks) (0, omega arith, refl))
           (λ ends. lock_or_end lock_here.lock next (sym lock_here.locks ∙ ends)) in
-          let cleans = cleans_on (z at) it.on.steps _ _ _ it.on.on.on.walks in
-          (omega (arith, it.on.short, few_cleans b_next at.o.side resume asks.registers, cleans, queue, fit, most_is y s h at.site.below), omega arith);
+          let cleans = cleans_on (z at) it.on.steps _ _ _ it.on.on.on.walks in (
+            omega (arith, it.on.short, boundary_cleans b_next at.o.view.side resume asks.registers, cleans, queue, fit, most_is y s h at.site.below),
+            omega arith,
+          );
     }
 
-    abbrev passage : Passage y code
-    passage = step_to at.site v (b.config.uncommitted ++ n ∷ []) b.config.memory b.config.attempts (leads_on y b _ happened refl tt) then_ghost new
+    frame_then : IsSectioned then_ghost → (word : ℕ) → IsFrameWord v.log word → IsFrameFlushed y v then_abstract code then_ghost new word
+    frame_then sectioned word framed = ⊎_elim opened inside opens_or_inside
+      where
+        log : v.log ≡ w.log
+        log = log_stays y.runs.program w (Step n) at.site.stands.machine.sound
+
+        is : IsFrameWord w.log word
+        is = subst (λ (l : Log). IsFrameWord l word) log framed
+
+        fenced : then_ghost.committed ≡ false → fences_ahead then_ghost.rest < 2 →
+            last_position (frame_in v.log v.words n word) ≤ (frame_in v.log v.words n word).durable
+        fenced un few = let two = boundaries_fence b_next at.o.view.side resume asks.registers in absurd (omega (arith, two, few))
+
+        opened : b_next.opens ≡ true → IsFrameFlushed y v then_abstract code then_ghost new word
+        opened opens = record {
+          comes = frame_ahead (8 * (word / 8)) (subst (λ (l : Log). Contains then_ghost.rest (Cleans (frame_at l n (8 * (word / 8)))))
+              (at.site.stands.machine.log ∙ sym log) (opening_cleans b_next at.o.view.side resume asks.registers word opens
+              (subst (λ (l : Log). IsFrameWord l word) (sym at.site.stands.machine.log) is) locks_held)) (omega arith);
+          fenced = fenced;
+        }
+          where
+            -- the mutex that it has taken is among them
+            locks_held : b_next.locks ≢ []
+            locks_held none =
+                point_where begins_there.describes (holds_some n (now_of y then_abstract).holders mutex
+                (ap (λ (x : FlowState). slice_get x.holders mutex) now_is ∙ get-set_same (now_of y b).holders mutex (Some n) None now_is_free))
+                (points_end b_next begins_there.framed frame at.o.view.side resume asks.registers (ap is_empty none))
+
+        inside : c.new.point ≢ 0 → IsFrameFlushed y v then_abstract code then_ghost new word
+        inside some =
+            frame_still y w v b then_abstract code c then_ghost t.log.hart new log (frame_stays log_first moves_then)
+            (reaches_same passage (alone at moving_hart).words
+            (ap (λ (x : Hart). x.queue) (same_there (slice_get v.harts n) new (gone_on asks.on.hart) it.on.on.on.here (alone at moving_hart).here)
+            ∙ (alone at moving_hart).queue))
+            (λ other has. absurd (contains_none _ (subst (λ (es : List Effect). Contains es (Cleans (frame_at w.log n other))) (none_left at) has))) word framed
+            fenced (t.stored.frame (inl some) word is)
+
+    one_begun : steps_begun then_abstract.config n ≡ suc (steps_begun b.config n)
+    one_begun = counted_own n b.config.uncommitted
 
     thread_then : ThreadInv y v then_abstract code then_ghost
     thread_then = record {
@@ -382,14 +466,28 @@ module _ {y : System} {s : IsSystem y} {w : World} {h mutex next : ℕ} (at : At
           (ap (λ (x : Hart). x.queue) (same_there (slice_get v.harts n) new (gone_on asks.on.hart) it.on.on.on.here (alone at moving_hart).here)
           ∙ (alone at moving_hart).queue)))
           (λ u e position since. since)
-          (λ u e f un few. let two = boundaries_fence b_next at.o.side resume asks.registers in absurd (omega (arith, two, few))) refl
+          (λ u e f un few. let two = boundaries_fence b_next at.o.view.side resume asks.registers in absurd (omega (arith, two, few))) refl
           (step_durable y.runs.program w n at.site.stands.machine.sound) (λ word position is. inl is)
           (λ word position among low.
           let settled = recorded_settled w.log n c.new w.words (ends w.log n c.old c.new (config_of w t.log.hart c.rest) t.log.log (rest_over at)) word among in
-          durable_there (step_durable y.runs.program w n at.site.stands.machine.sound word position (omega (arith, low, settled)))) t.stored;
+          durable_there (step_durable y.runs.program w n at.site.stands.machine.sound word position (omega (arith, low, settled))))
+          (frames_stay passage (log_stays y.runs.program w (Step n) at.site.stands.machine.sound) (step_last y.runs.program w n at.site.stands.machine.sound))
+          frame_then t.stored;
       has_read = reads_same passage (λ byte. refl) (none_bound c goes_clean.goes.committed)
-          (ap not (boundary_stores b_next at.o.side resume asks.registers)) refl t.has_read;
+          (ap not (boundary_stores b_next at.o.view.side resume asks.registers)) refl
+          (λ there. inr (none_bound c goes_clean.goes.committed, omega (arith, one_begun))) (omega (arith, one_begun)) t.has_read;
     }
+
+    told_new : tells_write c ≡ is_some c.new.written
+    told_new = ap (λ (r : Record). is_some r.written) (cond-true c.committed c.new c.old (committed_over at))
+
+    told_here : true ≡ true → steps_begun b.config n ≡ 0 → (node : ℕ) → node_of (now_of y b) n ≡ Some node → IsTold y node (tells_write c)
+    told_here begun first node stands =
+        let same : graph_thread.at ≡ node = same_Some _ _ (sym (ap (option_map (λ (z : GraphThread). z.at)) t.walks) ∙ stands) in
+        subst (λ (k : ℕ). IsTold y k (tells_write c)) same (
+          λ chosen. absurd (lock_plain (chosen_writes y s graph_thread.at lock_here.is lock_here.at chosen) lock_here.locks),
+          λ plain. told_new ∙ at.o.fits.1 first,
+        )
 
     takes_mutex : StepOf at.site n
     unfolding thread_then
@@ -407,15 +505,17 @@ module _ {y : System} {s : IsSystem y} {w : World} {h mutex next : ℕ} (at : At
       counted = record {
         marks = it.mark y.runs.marks refl;
         unlocked = λ lock gives. absurd (none-some lock gives);
-        points = it.counts.0 ∙ sym (ap (λ (x : Bool). not (is_bound c) && x) (ap not (boundary_stores b_next at.o.side resume asks.registers))
+        points = it.counts.0 ∙ sym (ap (λ (x : Bool). not (is_bound c) && x) (ap not (boundary_stores b_next at.o.view.side resume asks.registers))
             ∙ and_none (not (is_bound c)));
         bound = λ was. absurd (not_bound c goes_clean.goes.committed was);
         fences =
             subst (λ (rest : List Effect). AreFencesCounted (boundary_fences y.plan.log) (finishes_fence y.runs.program w (Step n) n)
             (stores_point y.runs.program w (Step n) n) rest then_ghost.rest) (sym goes_clean.goes.rest)
             (begins_fences (boundary_fences y.plan.log) _ _ then_ghost.rest it.counts.1 it.counts.0
-            (boundaries_fence b_next at.o.side resume asks.registers) (boundary_stores b_next at.o.side resume asks.registers));
+            (boundaries_fence b_next at.o.view.side resume asks.registers) (boundary_stores b_next at.o.view.side resume asks.registers));
         nears = begins_step refl;
+        told = sym told_new;
+        begins_told = told_here;
         last = last_still at at_lock;
         accesses = accesses_still at at_lock;
       };

@@ -4,6 +4,7 @@ use Rattle.crash_simulation.proofs.Common.{nat_tests, Step, IsWellFormedWorld, H
 use Rattle.crash_simulation.proofs.Common.{get-set_same, get-set_other, FlowState, equal_self, unequal_of, Record, IsElsewhere, IsNext, IsInPhase, HasGathered}
 use Rattle.crash_simulation.proofs.Common.{AreGathered, same_there, gathered_on, ready_stays, AbstractRun, now_of, with_ghost, MayStore, AreHeld, AreLocked}
 use Rattle.crash_simulation.proofs.Common.{gathered, records_of, System, IsSystem, ThreadGhost}
+use Rattle.std.specs.Prelude.{[]}
 use Rattle.crash_simulation.proofs.DisjointStores.{elsewhere}
 
 -- where the same harts hold mutexes, and the same is being given back
@@ -45,7 +46,7 @@ module _ (y : System) (s : IsSystem y) (w : World) (b : AbstractRun y) (ghosts :
   runs_held locks = grind (arith, nat_tests)
 
   gathered_after : (ghost : ThreadGhost) (new : Hart) → slice_get later.harts h ≡ Some new → GoneOn new.phase →
-      ((k : ℕ) → k ≢ h → IsElsewhere y.runs.program w h k) → AreGathered w (records_of ghosts) → AreGathered later (records_of (with_ghost ghosts h ghost))
+      ((k : ℕ) → k ≢ h → IsElsewhere y.runs.program w [] h k) → AreGathered w (records_of ghosts) → AreGathered later (records_of (with_ghost ghosts h ghost))
   gathered_after ghost new here goes elsewhere ag = record {
     each = each_ghost ghosts h ghost (λ (n : ℕ) (c : ThreadGhost). (hart : Hart) → slice_get later.harts n ≡ Some hart → HasGathered later n c.new hart.phase)
         (λ hart there. gone_gathered later h ghost.new hart.phase
@@ -61,7 +62,7 @@ module _ (y : System) (s : IsSystem y) (w : World) (b : AbstractRun y) (ghosts :
       (AreHeld w ghosts (now_of y b) → AreHeld later (with_ghost ghosts h ghost) (now_of y next)) → AreLocked y later next (with_ghost ghosts h ghost)
   locked_after next ghost new here goes may locks held =
       let all = runs_held locks in
-      gathered (gathered_after ghost new here goes (λ k other. elsewhere y s w h b logs may k (λ e. other (sym e))) all.0) (held all.1)
+      gathered (gathered_after ghost new here goes (λ k other. elsewhere y s w h b logs may k (λ e. other (sym e)) []) all.0) (held all.1)
 
 -- ---- A step of a hart by which a mutex is taken or given back
 

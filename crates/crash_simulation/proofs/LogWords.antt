@@ -5,7 +5,7 @@ use Rattle.crash_simulation.proofs.Common.{Record, LogConfig, LogIs, is_store, i
 use Rattle.boundary_code.specs.Boundaries.{commit_effects}
 use Rattle.machine_model.specs.Machine.{bank_of}
 use Rattle.log_states.specs.Logs.{IsRecorded, HasBank, bank_word}
-use Rattle.log_states.specs.Stages.{IsWriting, Stage, Writing, Written, Pointed, PointQueued, Over, cleans_of, stores_of}
+use Rattle.log_states.specs.Stages.{IsWriting, Stage, Writing, Written, Pointed, PointQueued, Over, cleans_of, frame_cleans, stores_of}
 use Rattle.crash_simulation.specs.ThreadGhosts.{IsWordOf, of_point, of_slot}
 
 -- all that is stored into the word is durable
@@ -38,10 +38,10 @@ module _ (log : Log) (thread : ℕ) where
       where
         by : not (list_any is_store m.rest) ≡ true → IsSettledWord m.words (word_number (point_at log thread)) → Stage log thread old new m →
             IsSettledWord m.words word
-        by stored point (Writing slots lines w h) =
+        by stored point (Writing slots lines framing w h) =
             absurd (true≢false (sym stored ∙ ap (λ (es : List Effect). not (list_any is_store es)) w.rest
-            ∙ ap not (stores_point_later (stores_of log thread new slots ++ cleans_of log thread new lines) new.point)))
-        by stored point (Written rest h bank) = absurd (true≢false (sym stored ∙ ap (λ (es : List Effect). not (list_any is_store es)) rest))
+            ∙ ap not (stores_point_later (stores_of log thread new slots ++ cleans_of log thread new lines ++ frame_cleans log thread framing) new.point)))
+        by stored point (Written rest h bank frame) = absurd (true≢false (sym stored ∙ ap (λ (es : List Effect). not (list_any is_store es)) rest))
         by stored point (Pointed rest h) = all_settled new m.words point h.new_bank word among
         by stored point (PointQueued rest h r) = all_settled new m.words point h.new_bank word among
         by stored point (Over rest h) = recorded_settled new m.words h word among
@@ -55,16 +55,17 @@ module _ (log : Log) (thread : ℕ) where
       first_stores [] = false
       first_stores (effect ∷ effects) = is_store effect
 
-      at_slots : (slots lines : List ℕ) → IsWriting log thread new slots lines m → IsWordOf log thread new (word_number address)
-      at_slots [] [] w = absurd (true≢false (ap first_stores (sym does ∙ w.rest)))
-      at_slots [] (line ∷ lines) w = absurd (true≢false (ap first_stores (sym does ∙ w.rest)))
-      at_slots (slot ∷ slots) lines w =
+      at_slots : (slots lines framing : List ℕ) → IsWriting log thread new slots lines framing m → IsWordOf log thread new (word_number address)
+      at_slots [] [] [] w = absurd (true≢false (ap first_stores (sym does ∙ w.rest)))
+      at_slots [] [] (line ∷ framing) w = absurd (true≢false (ap first_stores (sym does ∙ w.rest)))
+      at_slots [] (line ∷ lines) framing w = absurd (true≢false (ap first_stores (sym does ∙ w.rest)))
+      at_slots (slot ∷ slots) lines framing w =
           of_slot slot (w.own slot (contains_first slot slots)) (ap (λ (es : List Effect). word_number (first_of es)) (sym does ∙ w.rest))
 
       -- what it stores next it stores for its record
       pub stored_for : Stage log thread old new m → IsWordOf log thread new (word_number address)
-      stored_for (Writing slots lines w h) = at_slots slots lines w
-      stored_for (Written rest h bank) = of_point (ap (λ (es : List Effect). word_number (first_of es)) (sym does ∙ rest))
+      stored_for (Writing slots lines framing w h) = at_slots slots lines framing w
+      stored_for (Written rest h bank frame) = of_point (ap (λ (es : List Effect). word_number (first_of es)) (sym does ∙ rest))
       stored_for (Pointed rest h) = absurd (true≢false (ap first_stores (sym does ∙ rest)))
       stored_for (PointQueued rest h r) = absurd (true≢false (ap first_stores (sym does ∙ rest)))
       stored_for (Over rest h) = absurd (true≢false (ap first_stores (sym does ∙ rest)))
@@ -75,14 +76,15 @@ module _ (log : Log) (thread : ℕ) where
           (word : ℕ) → IsWordOf log thread new word → IsSettledWord m.words word
       point_settled there apart word among = by l.stage
         where
-          writes : (slots lines : List ℕ) → IsWriting log thread new slots lines m → ⊥
-          writes [] [] w = true≢false (ap first_stores (sym does ∙ w.rest))
-          writes [] (line ∷ lines) w = true≢false (ap first_stores (sym does ∙ w.rest))
-          writes (slot ∷ slots) lines w = apart slot (ap (λ (es : List Effect). word_number (first_of es)) (sym does ∙ w.rest))
+          writes : (slots lines framing : List ℕ) → IsWriting log thread new slots lines framing m → ⊥
+          writes [] [] [] w = true≢false (ap first_stores (sym does ∙ w.rest))
+          writes [] [] (line ∷ framing) w = true≢false (ap first_stores (sym does ∙ w.rest))
+          writes [] (line ∷ lines) framing w = true≢false (ap first_stores (sym does ∙ w.rest))
+          writes (slot ∷ slots) lines framing w = apart slot (ap (λ (es : List Effect). word_number (first_of es)) (sym does ∙ w.rest))
 
           by : Stage log thread old new m → IsSettledWord m.words word
-          by (Writing slots lines w h) = absurd (writes slots lines w)
-          by (Written rest h bank) = all_settled new m.words h.point.durable bank word among
+          by (Writing slots lines framing w h) = absurd (writes slots lines framing w)
+          by (Written rest h bank frame) = all_settled new m.words h.point.durable bank word among
           by (Pointed rest h) = absurd (true≢false (ap first_stores (sym does ∙ rest)))
           by (PointQueued rest h r) = absurd (true≢false (ap first_stores (sym does ∙ rest)))
           by (Over rest h) = absurd (true≢false (ap first_stores (sym does ∙ rest)))

@@ -6,7 +6,7 @@ use Rattle.crash_simulation.proofs.Common.{OnFragmentNow, asks, NoneIsStuck, Tak
 use Rattle.crash_simulation.specs.InstructionSteps.{IsCalling}
 use Rattle.hart_runs.specs.Calls as harts
 use Rattle.hart_runs.proofs.Public as harts_well
-use Rattle.crash_simulation.proofs.LoadFreeEnvironment.{bare}
+use Rattle.crash_simulation.proofs.NodeEnvironments.{reading}
 use Rattle.crash_simulation.proofs.LocksAfterStep.{runs_held}
 use Rattle.crash_simulation.proofs.LocksAtCalls.{mutex_there}
 use Rattle.crash_simulation.proofs.ReadyHarts.{runs_ready}
@@ -35,16 +35,16 @@ module _ {y : System} {s : IsSystem y} {w : World} {h : ℕ} (site : Site y s w 
         elim (get_cases w.holders mutex) [
           | inl none ↦ let long = no_more w.holders mutex none in absurd (omega (arith, long, stands.machine.mutexes, within))
           | inr there ↦
-              locks_are_well harts_well.none_is_stuck y.plan code.thread y.runs.program code.program code.is w n (bare y s w h below) graph_thread.at mutex
-              next seen o.side [] there.0 fragment there.1
+              locks_are_well harts_well.none_is_stuck y.plan code.thread y.runs.program code.program code.is w n (reading site []) graph_thread.at mutex
+              next seen o.view [] there.0 fragment there.1
         ]
     by_call _ (gives from mutex) o =
         let at = at_calls.at_end site held o in
-        unlocks_are_well harts_well.none_is_stuck y.plan code.thread y.runs.program code.program code.is w n (bare y s w h below) from mutex
-        graph_thread.at seen o.side [] (calls.giving at) (calls.owns at)
+        unlocks_are_well harts_well.none_is_stuck y.plan code.thread y.runs.program code.program code.is w n (reading site []) from mutex
+        graph_thread.at seen o.view [] (calls.giving at) (calls.owns at)
     by_call _ ends o =
         let at = at_calls.at_end site held o in
-        ends_are_well harts_well.none_is_stuck y.plan code.thread y.runs.program code.program code.is w n (bare y s w h below) graph_thread.at seen o.side []
+        ends_are_well harts_well.none_is_stuck y.plan code.thread y.runs.program code.program code.is w n (reading site []) graph_thread.at seen o.view []
         (calls.ending at) (at_calls.none_from n 0 w.holders (calls.none_here at))
 
   by_where : AreHeld w stands.ghosts (now_of y b) → IsWhere site → IsFree y w n

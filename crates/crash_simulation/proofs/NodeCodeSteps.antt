@@ -6,12 +6,17 @@ use Rattle.c_tree.specs.Exprs as e
 use Rattle.crash_simulation.proofs.OwnHartSteps.{view, StepOf, own_step, AtNode}
 use Rattle.crash_simulation.proofs.NodeEffects.{is_quiet, some_node, owes_here}
 use Rattle.crash_simulation.proofs.GraphAfterBegin.{matches_now}
+use Rattle.crash_simulation.proofs.Common.{◌∷◌, [], ℤ, List, Home, InRegister, held_names_before, home_of, true≢false}
+use Rattle.expr_code.specs.declared.home.Home.TheVariants.{InFrame}
+use Rattle.flow_graph.specs.Actions as a
 use Rattle.crash_simulation.proofs.LocalNodeSteps.{quiet_step}
+use Rattle.crash_simulation.proofs.LoggedNodeSteps.{AssignsLogged, logged_step}
+use Rattle.crash_simulation.proofs.MarksAtNodes.{IsPlainSet, IsUnlogged}
 use Rattle.crash_simulation.proofs.StoreNodeSteps.{MakesStore, store_step}
 use Rattle.crash_simulation.proofs.UnlockNodeSteps.{unlock_step}
 
 module _ {y : System} {s : IsSystem y} {w : World} {h : ℕ} (site : AtNode y s w h) where
-  open view site.hart use {b, t, n, graph_thread, seen}
+  open view site.hart use {b, code, t, n, graph_thread, seen}
 
   pub found : (node : Node) × NodeAt (lowered (flat_of y)) graph_thread.at node
   found = some_node (flat_of y) s.plan.formed (now_of y b) (now b.config) n (matches_now y s b) graph_thread t.walks
@@ -25,10 +30,39 @@ module _ {y : System} {s : IsSystem y} {w : World} {h : ℕ} (site : AtNode y s 
 
   -- what holds of each node that takes no mutex: of one without a store, of one with, and of an unlock's
   module _ (P : Type 0) (free : (is : Node) (lock : LockName) (next : ℕ) → NodeAt y.plan.graph graph_thread.at is → is.action ≢ Lock lock next)
-      (quiet : (e : Effect) → effect_of found.0.action seen ≡ Some e → is_quiet e ≡ true → P) (store : MakesStore found.0 graph_thread → P)
+      (quiet : (e : Effect) → effect_of found.0.action seen ≡ Some e → is_quiet e ≡ true → IsUnlogged y.plan code.thread graph_thread.at e → P)
+      (logged : AssignsLogged site found.0 → P) (store : MakesStore found.0 graph_thread → P)
       (unlock : (lock : LockName) (next : ℕ) → found.0.action ≡ Unlock lock next → P) where
     quietly : (z : Action) → found.0.action ≡ z → (effect : Effect) → effect_of z seen ≡ Some effect → is_quiet effect ≡ true → P
-    quietly z is effect does = quiet effect (ap (λ (x : Action). effect_of x seen) is ∙ does)
+    quietly z is effect does plain = by effect (ap (λ (x : Action). effect_of x seen) is ∙ does) plain
+      where
+        set : (local : ℕ) (number : ℤ) (next : ℕ) → effect_of found.0.action seen ≡ Some (a.Sets local number next) → (home : Home) (held : List LockName) →
+            home_of code.thread.locals local ≡ home → held_names_before y.plan code.thread graph_thread.at ≡ held → P
+        set local number next now (InRegister register) held at_home holds = quiet (a.Sets local number next) now refl
+            (coe 0 1 (i. IsPlainSet ((sym at_home) i) ((sym holds) i)) tt)
+        set local number next now (InFrame word) [] at_home holds = quiet (a.Sets local number next) now refl
+            (coe 0 1 (i. IsPlainSet ((sym at_home) i) ((sym holds) i)) tt)
+        set local number next now (InFrame word) (name ∷ held) at_home holds = logged (record {
+          local = local;
+          number = number;
+          next_node = next;
+          does = now;
+          word = word;
+          home = at_home;
+          name = name;
+          held = held;
+          holds = holds;
+        })
+
+        by : (f : Effect) → effect_of found.0.action seen ≡ Some f → is_quiet f ≡ true → P
+        by (a.Sets local number next) now plain =
+            set local number next now (home_of code.thread.locals local) (held_names_before y.plan code.thread graph_thread.at) refl refl
+        by (a.Owes store next) now plain = quiet (a.Owes store next) now refl tt
+        by (a.Makes store next) now plain = absurd (true≢false (sym plain))
+        by (a.Goes next) now plain = quiet (a.Goes next) now refl tt
+        by (a.Takes mutex next) now plain = absurd (true≢false (sym plain))
+        by (a.Gives mutex next) now plain = absurd (true≢false (sym plain))
+        by a.Ends now plain = quiet a.Ends now refl tt
 
     by_action : (z : Action) → found.0.action ≡ z → P
     by_action (Eval (e.ToLocal place local kind) value next) is = quietly _ is _ refl refl
@@ -47,6 +81,7 @@ pub cores_step : MarksPass → CoresStep
 cores_step marks y s w h hart i core free =
     let site : AtNode y s w h = record { hart = hart; core = core } in
     own_step site.hart i (by_node site (StepOf site.hart (view site.hart).n) free
-    (λ e does quiet. quiet_step site (found site).0 (found site).1 (record { e = e; does = does; quiet = quiet }) marks)
+    (λ e does quiet plain. quiet_step site (found site).0 (found site).1 (record { e = e; does = does; quiet = quiet }) plain marks)
+    (λ logged. logged_step site (found site).0 (found site).1 logged marks)
     (λ makes. store_step site (found site).0 (found site).1 makes marks)
     (λ lock next is. unlock_step site (found site).0 (found site).1 (record { lock = lock; next_node = next; action = is }) marks))

@@ -1,11 +1,15 @@
 -- A step of a thread's own hart: what the machine is to know of it.
-use Rattle.crash_simulation.proofs.Common.{◌≡◌, ℕ, ℤ, List, sym, ◌∙◌, ap, arith, subst, true, Option, Some, None}
-use Rattle.crash_simulation.proofs.Common.{refl, [], length, slice_get, nat_tests, Step, Log, Hart}
-use Rattle.crash_simulation.proofs.Common.{World, after_event, Effect, Run, Seen, GraphThread, FlowState, seen_by, boundary_effects, IsOnSide, Attempt, Memory}
-use Rattle.crash_simulation.proofs.Common.{memory_in, recorded_by, IsRecoverable, LogInv, IsSideOf, IsElsewhere, config_of, IsNext, steps_keep, ends_committed}
-use Rattle.crash_simulation.proofs.Common.{begins_standing, IsInPhase, Places, keeping, Code, Describes, AbstractRun, kept_of, now_of, begins, Site, OwnStep}
-use Rattle.crash_simulation.proofs.Common.{Releases, StepsOrStutters, with_ghost, MayStore, thread_of, IsCounted, AtCoreNow, AreHeld, System, IsSystem}
-use Rattle.crash_simulation.proofs.Common.{places_of, ThreadGhost, ThreadInv, committed, HasRecords}
+use Rattle.crash_simulation.proofs.Common.{Bool, Record, cond-true, is_some, node_of, option_map, same_Some, steps_begun}
+use Rattle.crash_simulation.specs.InstructionSteps.{IsTold}
+use Rattle.crash_simulation.specs.ThreadGhosts.{tells_write}
+use Rattle.crash_simulation.proofs.Common.{◌≡◌, ℕ, List, sym, ◌∙◌, ap, arith, subst, true, Option, Some, None, refl, [], length, slice_get, nat_tests, Step}
+use Rattle.crash_simulation.proofs.Common.{Log, Hart, World, after_event, Effect, Run, Seen, GraphThread, FlowState, seen_by, boundary_effects, IsOnSide}
+use Rattle.crash_simulation.proofs.Common.{Attempt, Memory, memory_in, recorded_by, IsRecoverable, LogInv, IsSideOf, IsElsewhere, config_of, IsNext}
+use Rattle.crash_simulation.proofs.Common.{steps_keep, ends_committed, begins_standing, IsInPhase, Places, Code, Describes, AbstractRun, kept_of, now_of}
+use Rattle.crash_simulation.proofs.Common.{begins, Site, OwnStep, Releases, StepsOrStutters, with_ghost, MayStore, thread_of, IsCounted, AtCoreNow, AreHeld}
+use Rattle.crash_simulation.proofs.Common.{System, IsSystem, places_of, ThreadGhost, ThreadInv, committed, HasRecords, AreNamed, Boundary, FrameIsComing}
+use Rattle.crash_simulation.proofs.Common.{contains_none, nothing_recorded, same_there}
+use Rattle.crash_simulation.proofs.FrameWords.{from_nothing}
 use Rattle.crash_simulation.specs.Accesses.{Access}
 use Rattle.crash_simulation.proofs.PendingFlushes.{Leads, Passage}
 use Rattle.crash_simulation.proofs.LocksAfterStep.{GoneOn, LockStep, locked_after}
@@ -14,7 +18,7 @@ use Rattle.crash_simulation.proofs.ThreadViews.{describes_over, log_at, records_
 -- the ghost state of a thread on its way between boundaries, with these cleans and steps ahead, where its hart has stored last, and what it has accessed first
 abbrev pub going : ThreadGhost → (cleans : List Effect) → (before_mark : ℕ) → (last_stores : ℕ → Option ℕ) → (first_accesses : ℕ → Option Access) → ThreadGhost
 going c cleans before_mark last_stores first_accesses = record {
-  old = c.old;
+  old = nothing_recorded;
   new = c.new;
   rest = [];
   committed = true;
@@ -80,14 +84,18 @@ module _ {y : System} {s : IsSystem y} {w : World} {h : ℕ} (site : Site y s w 
   }
 
   -- its log where a boundary begins
-  pub log_begins : (locals : List ℤ) (node side resume : ℕ) (x : List ℕ) → c.rest ≡ [] → IsOnSide y.plan.log side x → IsSideOf c.new side →
-      IsRecoverable (keeping y.plan code.thread places locals node) resume x →
-      LogInv n c.new (recorded_by (keeping y.plan code.thread places locals node) side resume x) w
-      (boundary_effects (keeping y.plan code.thread places locals node) side resume x)
-  log_begins locals node side resume x over on is recoverable =
-      begins_standing (keeping y.plan code.thread places locals node) c.old c.new side resume x w site.stands.machine.log
-      (subst (λ (rest : List Effect). LogInv n c.old c.new w rest) over t.log)
+  pub log_begins : (boundary : Boundary) → boundary.log ≡ y.plan.log → boundary.thread ≡ n → (framed : List ℕ) (frame : ℕ → ℕ) (side resume : ℕ)
+      (x : List ℕ) → c.rest ≡ [] → IsOnSide y.plan.log side x → IsSideOf c.new side → IsRecoverable boundary resume x →
+      FrameIsComing boundary framed frame w.words t.log.hart.queue →
+      LogInv n c.new (recorded_by boundary framed frame side resume x) w (boundary_effects boundary side resume x)
+  log_begins boundary log thread framed frame side resume x over on is recoverable comes =
+      let here : LogInv n c.old c.new w [] = subst (λ (rest : List Effect). LogInv n c.old c.new w rest) over t.log in
+      let own : LogInv boundary.thread c.old c.new w [] = subst (λ (k : ℕ). LogInv k c.old c.new w []) (sym thread) here in
+      subst (λ (k : ℕ). LogInv k c.new (recorded_by boundary framed frame side resume x) w (boundary_effects boundary side resume x)) thread
+      (begins_standing boundary framed frame c.old c.new side resume x w (log ∙ site.stands.machine.log) own
       (record { registers = subst (λ (l : Log). IsOnSide l side x) site.stands.machine.log on; is = is }) recoverable
+      (subst (λ (hart : Hart). FrameIsComing boundary framed frame w.words hart.queue)
+      (same_there (slice_get w.harts n) t.log.hart own.hart t.log.here (ap (slice_get w.harts) (sym thread) ∙ own.here)) comes))
 
   pub same_number : n ≡ h
   same_number = s.codes.number h site.below
@@ -144,16 +152,28 @@ module _ {y : System} {s : IsSystem y} {w : World} {h : ℕ} (site : AtNode y s 
   open view site.hart use {b, code, c, t, n, v}
 
   -- its log after a step that stores nothing to that
-  abbrev pub log_going : IsElsewhere y.runs.program w n n → (hart : Hart) → slice_get v.harts n ≡ Some hart → LogInv n c.old c.new v []
-  log_going elsewhere = log_at (steps_keep y.runs.program n n c.old c.new w [] site.hart.stands.machine.sound
-      (subst (λ (rest : List Effect). LogInv n c.old c.new w rest) site.core.goes.goes.rest t.log) elsewhere)
+  abbrev pub log_going : (named : List ℕ) → AreNamed named c.new → IsElsewhere y.runs.program w named n n → (hart : Hart) → slice_get v.harts n ≡ Some hart →
+      LogInv n nothing_recorded c.new v []
+  log_going named among elsewhere = log_at (steps_keep y.runs.program named n n nothing_recorded c.new w [] site.hart.stands.machine.sound
+      (from_nothing (subst (λ (rest : List Effect). LogInv n c.old c.new w rest) site.core.goes.goes.rest t.log))
+      (λ word has. absurd (contains_none word has)) among elsewhere)
 
   -- what it says then, where the same is kept
   pub records_going : (next : AbstractRun y) → kept_of y next ≡ kept_of y b → (cleans : List Effect) (before_mark : ℕ) (last_stores : ℕ → Option ℕ)
-      (first_accesses : ℕ → Option Access) (log : LogInv n c.old c.new v []) →
+      (first_accesses : ℕ → Option Access) (log : LogInv n nothing_recorded c.new v []) →
       HasRecords y next code (going c cleans before_mark last_stores first_accesses)
       (committed v n (going c cleans before_mark last_stores first_accesses) log.hart)
   records_going next same cleans before_mark last_stores first_accesses log =
       records_over y next code (going c cleans before_mark last_stores first_accesses) refl refl
-      (ends_committed v.log n c.old c.new (config_of v log.hart []) log.log refl)
+      (ends_committed v.log n nothing_recorded c.new (config_of v log.hart []) log.log refl)
       (subst (λ (kept : FlowState). Describes y.plan code kept c.new) (sym same) (describes_over y b code c t.records site.core.goes.goes.committed))
+
+  -- what the kept record tells of a write
+  pub told_new : tells_write c ≡ is_some c.new.written
+  told_new = ap (λ (r : Record). is_some r.written) (cond-true c.committed c.new c.old site.core.goes.goes.committed)
+
+  pub told_at : {begun : Bool} → begun ≡ true → steps_begun b.config n ≡ 0 → (node : ℕ) → node_of (now_of y b) n ≡ Some node → IsTold y node (tells_write c)
+  told_at begun first node stands =
+      let same : (view site.hart).graph_thread.at ≡ node = same_Some _ _ (sym (ap (option_map (λ (z : GraphThread). z.at)) t.walks) ∙ stands) in
+      subst (λ (k : ℕ). IsTold y k (tells_write c)) same
+      (λ chosen. told_new ∙ site.core.told chosen, λ plain. told_new ∙ site.core.untold plain first)

@@ -5,6 +5,7 @@ use Rattle.crash_simulation.proofs.Common.{attempt_of, history_at, Memory, IsSin
 use Rattle.crash_simulation.proofs.Common.{stores_are_cleaned, fences_ahead, is_clean, Code, AbstractRun, kept_of, attempts_of, abstract_next, System, IsSystem}
 use Rattle.crash_simulation.proofs.Common.{flat_of, shapes_of, places_of, ThreadGhost, is_reached, is_ahead, IsFlushed, IsComing, HasStored}
 use Rattle.crash_simulation.proofs.Common.{Some, last_position, IsWordOf, IsOnItsWay, durable_there, comes_with, recorded_in}
+use Rattle.crash_simulation.proofs.Common.{◌∙◌, ap, IsFrameFlushed, IsFrameWord, IsSectioned, Log, frame_word, in_frame}
 use Rattle.region_attempts.specs.PendingCleans.{Cleans}
 use Rattle.crash_simulation.proofs.StatesMatchSource.{cuts, resumed}
 use Rattle.crash_simulation.proofs.Elements.{word_of_element, position_durable}
@@ -126,23 +127,38 @@ module _ {y : System} {code : Code y.plan} (p : Passage y code) where
   abbrev pub StaysDurable : Type 0
   StaysDurable = (j position : ℕ) → position ≤ (word_at w.words j).durable → position ≤ (word_at v.words j).durable
 
-  -- what is last then was last before, or is stored for its record
+  -- what is last then was last before, or is on its way
   abbrev pub LastsAre : Type 0
   LastsAre = (word position : ℕ) → new.last_stores word ≡ Some position →
-      (c.last_stores word ≡ Some position) ⊎ (IsWordOf v.log number new.new word × (position ≤ last_position (word_at v.words word)))
+      (c.last_stores word ≡ Some position) ⊎ IsOnItsWay y v run_after code new after word position
 
   -- what was stored for its record is so still, or durable
   abbrev pub RecordsStay : Type 0
   RecordsStay = (word position : ℕ) → IsWordOf w.log number c.new word → position ≤ last_position (word_at w.words word) →
       IsOnItsWay y v run_after code new after word position
 
+  -- what was stored into a word of its frame is so still
+  abbrev pub FramesStay : Type 0
+  FramesStay = (own word position : ℕ) → IsFrameWord w.log own → frame_word w.log number own ≡ word → position ≤ last_position (word_at w.words word) →
+      IsOnItsWay y v run_after code new after word position
+
+  -- in a section its frame is on its way
+  abbrev pub FrameFlushes : Type 0
+  FrameFlushes = IsSectioned new → (word : ℕ) → IsFrameWord v.log word → IsFrameFlushed y v run_after code new after word
+
+  pub frames_stay : v.log ≡ w.log → ((j position : ℕ) → position ≤ last_position (word_at w.words j) → position ≤ last_position (word_at v.words j)) →
+      FramesStay
+  frames_stay log longer own word position framed at low =
+      in_frame own (subst (λ (l : Log). IsFrameWord l own) (sym log) framed) (ap (λ (l : Log). frame_word l number own) log ∙ at)
+      (longer word position low)
+
   -- all that it has stored, where the attempt is as long as it was
   pub stored_same : ((effect : Effect) → Contains new.cleans effect → is_clean effect ≡ true) → StillComes →
       ((u e q : ℕ) → IsSince (history_at b.config.memory u e) q → IsSince (history_at memory u e) q) →
       ((u e : ℕ) (f : IsFlushed y w b code c old u e) → new.committed ≡ false → fences_ahead new.rest < 2 →
-      f.position ≤ (history_at memory u e).durable) → now ≡ before → StaysDurable → LastsAre → RecordsStay → HasStored y w b code c old →
-      HasStored y v run_after code new after
-  stored_same clean still since fenced same durable lasts records stored = record {
+      f.position ≤ (history_at memory u e).durable) → now ≡ before → StaysDurable → LastsAre → RecordsStay → FramesStay → FrameFlushes →
+      HasStored y w b code c old → HasStored y v run_after code new after
+  stored_same clean still since fenced same durable lasts records frames frame stored = record {
     cleans = clean;
     flushed = λ u e writes. flushed_same still since fenced same u e (stored.flushed u e (subst (λ (k : ℕ). Writes b.config.kept number k u e) same writes));
     last = λ word position is. elim (lasts word position is) [
@@ -150,7 +166,9 @@ module _ {y : System} {code : Code y.plan} (p : Passage y code) where
         | durable_there low ↦ durable_there (durable word position low)
         | comes_with u e f at low ↦ comes_with u e (flushed_same still since fenced same u e f) at low
         | recorded_in among low ↦ records word position among low
+        | in_frame own framed at low ↦ frames own word position framed at low
       ]
-      | inr own ↦ recorded_in own.0 own.1
+      | inr own ↦ own
     ];
+    frame = frame;
   }

@@ -1,13 +1,14 @@
 -- Where a thread is, by what it has begun: at a boundary that isn't committed, or giving back a mutex that it has unlocked.
-use Rattle.crash_simulation.proofs.Common.{◌≡◌, ℕ, sym, ◌∙◌, arith, false, Some, refl, ◌⊎◌, inl, inr, true≢false, ⊎_elim, nat_tests, World, Phase, Done, Run}
-use Rattle.crash_simulation.proofs.Common.{Ended, HasUnlocked, ExitPoint, Arrives, Gives, Ends, Keeps, Asks, Took, Code, AbstractRun, System, Rests}
-use Rattle.crash_simulation.proofs.Common.{ThreadGhost, on_fragment, at_core, InPhase, ThreadInv, IsRunningThread, IsBounded, ExitInv, InFragment, IsInAttempt}
+use Rattle.crash_simulation.proofs.Common.{◌≡◌, ℕ, ℤ, Computes, sym, ◌∙◌, arith, false, Some, refl, ◌⊎◌, inl, inr, true≢false, ⊎_elim, nat_tests, World}
+use Rattle.crash_simulation.proofs.Common.{Phase, Done, Run, Ended, HasUnlocked, ExitPoint, Arrives, Gives, Ends, Keeps, Asks, Took, Code, AbstractRun}
+use Rattle.crash_simulation.proofs.Common.{System, Rests, ThreadGhost, on_fragment, at_core, InPhase, ThreadInv, IsRunningThread, IsBounded, ExitInv}
+use Rattle.crash_simulation.proofs.Common.{InFragment, IsInAttempt}
 
 -- ---- Where a thread is whose boundary isn't taken as committed
 
 -- where a fragment leads to a boundary, or through one
 pub data IsAtBoundary : ExitPoint → Type 0 where
-  at_keeps : IsAtBoundary Keeps
+  at_keeps : (owed : ℤ) → IsAtBoundary (Keeps owed)
   at_took : (from : ℕ) → IsAtBoundary (Took from)
   at_gives : (from mutex : ℕ) → IsAtBoundary (Gives from mutex)
 
@@ -28,8 +29,9 @@ module _ (y : System) (w : World) (b : AbstractRun y) (code : Code y.plan) (c : 
 
   by_exit : (exit : ExitPoint) → ExitInv y b.config code.thread.number c t.graph_thread exit → IsInAttempt y b.config code.thread.number c ⊎ IsAtBoundary exit
   by_exit Arrives f = inl f.0
-  by_exit Keeps f = inr at_keeps
-  by_exit (Asks mutex next) f = inl f.goes
+  by_exit (Keeps owed) f = inr (at_keeps owed)
+  by_exit (Computes from local number) f = inl f.0.goes
+  by_exit (Asks mutex next) f = inl f.0.goes
   by_exit (Took from) f = inr (at_took from)
   by_exit (Gives from mutex) f = inr (at_gives from mutex)
   by_exit Ends f = inl f.goes
@@ -67,7 +69,7 @@ module _ (y : System) (w : World) (b : AbstractRun y) (code : Code y.plan) (c : 
 module _ (y : System) (w : World) (b : AbstractRun y) (code : Code y.plan) (c : ThreadGhost) (mutex : ℕ) (gives : c.giving ≡ Some mutex)
     (t : ThreadInv y w b code c) where
   abbrev Bounded : ℕ → Type 0
-  Bounded k = IsBounded y b.config code.thread.number c t.graph_thread (Some k) (HasUnlocked b.config code.thread.number k)
+  Bounded k = IsBounded y b.config code.thread.number c t.graph_thread (Some k) false (HasUnlocked b.config code.thread.number k)
 
   pub bounded_of : Bounded mutex
   bounded_of = grind (arith, nat_tests)

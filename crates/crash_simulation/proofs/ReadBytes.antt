@@ -1,26 +1,29 @@
--- What a thread has read first stays so by a step of its own, and what it loads now its attempt reads.
+-- What a hart has loaded first, and why no store of its thread comes to that: both stay so by a step of its own, and what it loads now is such a load, too.
 use Rattle.crash_simulation.proofs.Common.{◌≡◌, ◌≢◌, ◌⊎◌, inl, inr, refl, ℕ, suc, ◌+◌, ◌<◌, ◌≤◌, Option, Some, None, Bool, true, false, not, ◌&&◌, sym, ◌∙◌, ap}
-use Rattle.crash_simulation.proofs.Common.{true≢false, arith, subst, list_any, none-some, option_map, is_store, Hart, Effect, Loads, Stores, Step, stores_point}
-use Rattle.crash_simulation.proofs.Common.{Writes, attempt_of, attempt_at, writes_more, IsNext, MarkedEnvironment, Code, System, ThreadGhost, AbstractRun}
-use Rattle.crash_simulation.proofs.Common.{kept_of, flat_of, is_bound}
+use Rattle.crash_simulation.proofs.Common.{true≢false, arith, subst, list_any, none-some, option_map, is_store, Hart, Effect, Loads, Step, stores_point}
+use Rattle.crash_simulation.proofs.Common.{Writes, attempt_of, attempt_at, IsNext, MarkedEnvironment, Code, System, ThreadGhost, AbstractRun}
+use Rattle.crash_simulation.proofs.Common.{is_bound}
 use Rattle.code_runs.specs.CodeTraces.{passed}
-use Rattle.code_runs.specs.ComputingRuns.{Environment, LocalConfig}
+use Rattle.code_runs.specs.ComputingRuns.{LocalConfig}
 use Rattle.machine_model.specs.Schedule.{completes}
 use Rattle.crash_simulation.specs.Accesses.{first_access_after, load, loads_from, stores_to}
-use Rattle.crash_simulation.specs.ThreadGhosts.{AnswersJustRead, HasRead, IsElementAt, IsJustRead, IsReadFirst}
+use Rattle.crash_simulation.specs.ThreadGhosts.{AnswersLoaded, HasRead, IsByteOf, IsJustRead, IsLoaded, IsLoadedFirst, IsReadAhead, IsReadFirst}
+use Rattle.crash_simulation.specs.ThreadGhosts.{StandsAtNoStore, in_own_frame, just_read, loaded_ahead, own_word, read_ahead, read_first}
+use Rattle.crash_simulation.proofs.Common.{steps_begun}
 use Rattle.crash_simulation.proofs.CompletedEffects.{IsLoadOf, accessed_then, completed_is, loaded_first, loads_it}
+use Rattle.crash_simulation.proofs.LastReleases.{and_none}
 use Rattle.crash_simulation.proofs.PendingFlushes.{Passage, run_after}
 
 -- a boundary that is taken as committed binds nothing
 pub none_bound : (c : ThreadGhost) → c.committed ≡ true → is_bound c ≡ false
 none_bound c is = ap (λ (b : Bool). not b && not (list_any is_store c.rest)) is
 
--- where nothing has been loaded, and no step is begun
+-- where nothing has been loaded, and the attempt has made no step
 pub none_read : (y : System) (b : AbstractRun y) (n : ℕ) (c : ThreadGhost) → (attempt_of b.config n).done ≡ 0 →
     ((byte : ℕ) → c.first_accesses byte ≢ Some load) → HasRead y b n c
 none_read y b n c none unread = record {
   read = λ byte is. absurd (unread byte is);
-  written = λ unbound variable number address bytes byte writes at from to. absurd (omega (arith, writes.within, none));
+  written = λ unbound variable number byte writes of. absurd (omega (arith, writes.within, none));
 }
 
 -- ---- Loads that are answered
@@ -68,11 +71,7 @@ module _ {y : System} {code : Code y.plan} (p : Passage y code) where
   still unbound grows byte r = record {
     variable = r.variable;
     number = r.number;
-    address = r.address;
-    bytes = r.bytes;
-    at = r.at;
-    from = r.from;
-    to = r.to;
+    of = r.of;
     step = r.step;
     below = omega (arith, r.below, grows);
     read = r.read;
@@ -80,53 +79,91 @@ module _ {y : System} {code : Code y.plan} (p : Passage y code) where
     unbound = unbound;
   }
 
+  -- where it stood at a node that makes no store it does still, or it has begun a step that isn't bound
+  abbrev pub StandsOn : Type 0
+  StandsOn = StandsAtNoStore y b n → StandsAtNoStore y next n ⊎ ((is_bound c ≡ false) × (0 < steps_begun next.config n))
+
+  ahead_still : StandsOn → steps_begun b.config n ≤ steps_begun next.config n → (is_bound c ≡ false → is_bound new ≡ false) → (byte : ℕ) →
+      IsReadAhead y b n c byte → IsReadAhead y next n new byte
+  ahead_still stands begun unbound byte r = record { framed = r.framed; variable = r.variable; number = r.number; of = r.of; since = since r.since }
+    where
+      since : StandsAtNoStore y b n ⊎ ((is_bound c ≡ false) × (0 < steps_begun b.config n)) →
+          StandsAtNoStore y next n ⊎ ((is_bound new ≡ false) × (0 < steps_begun next.config n))
+      since (inl there) = elim (stands there) [
+        | inl on ↦ inl on
+        | inr gone ↦ inr (unbound gone.0, gone.1)
+      ]
+      since (inr gone) = inr (unbound gone.0, omega (arith, gone.1, begun))
+
+  -- where no point is stored, what has been loaded first stays so
+  loaded_still : StandsOn → steps_begun b.config n ≤ steps_begun next.config n → (is_bound c ≡ false → is_bound new ≡ false) → before ≤ now → (byte : ℕ) →
+      IsLoadedFirst y b n c byte → IsLoadedFirst y next n new byte
+  loaded_still stands begun unbound grows byte (read_first r) = read_first (still (unbound r.unbound) grows byte r)
+  loaded_still stands begun unbound grows byte (in_own_frame own) = in_own_frame own
+  loaded_still stands begun unbound grows byte (loaded_ahead r) = loaded_ahead (ahead_still stands begun unbound byte r)
+
   -- where it loads nothing, its attempt is as long as it was, and its boundary begins at most
   pub reads_same : ((byte : ℕ) → new.first_accesses byte ≡ c.first_accesses byte) → is_bound c ≡ false → is_bound new ≡ false → now ≡ before →
-      HasRead y b n c → HasRead y next n new
-  reads_same same was unbound long reads = record {
-    read = λ byte is. still unbound (omega (arith, long)) byte (reads.read byte (sym (same byte) ∙ is));
-    written = λ free variable number address bytes byte writes at from to none.
-        reads.written was variable number address bytes byte (subst (λ (k : ℕ). Writes b.config.kept n k variable number) long writes) at from to
-        (sym (same byte) ∙ none);
+      StandsOn → steps_begun b.config n ≤ steps_begun next.config n → HasRead y b n c → HasRead y next n new
+  reads_same same was unbound long stands begun reads = record {
+    read = λ byte is. loaded_still stands begun (λ free. unbound) (omega (arith, long)) byte (reads.read byte (sym (same byte) ∙ is));
+    written = λ free variable number byte writes of none.
+        reads.written was variable number byte (subst (λ (k : ℕ). Writes b.config.kept n k variable number) long writes) of (sym (same byte) ∙ none);
   }
 
-  -- it completes an instruction, if one, whose loads are answered, of what has just been read
+  -- it completes an instruction, if one, whose loads are answered
   pub record Executes : Type 0 where
     pub hart : Hart
     pub effect : Effect
     pub is_next : IsNext y.runs.program w n hart effect
     pub environment : MarkedEnvironment
     pub answered : AreAnswered environment effect
-    pub just : AnswersJustRead y next n new environment
+    pub loaded : AnswersLoaded y next n new environment
 
-  module _ (x : Executes) (reads : HasRead y b n c) (stays : StaysBound) (grows : before ≤ now) (at_most : now ≤ suc before) where
+  -- what it has written by the step alone is stored to by that
+  abbrev pub AccessesWritten : Type 0
+  AccessesWritten = (variable number byte : ℕ) → Writes b.config.kept n now variable number → IsByteOf y variable number byte →
+      Writes b.config.kept n before variable number ⊎ (completes (stores_to byte) y.runs.program w (Step n) n ≡ true)
+
+  module _ (x : Executes) (reads : HasRead y b n c) (stays : StaysBound) (grows : before ≤ now) (at_most : now ≤ suc before) (stands : StandsOn)
+      (begun : steps_begun b.config n ≤ steps_begun next.config n) where
     open x use {effect, environment}
 
     first_here : (byte address bytes : ℕ) → address ≤ byte → byte < address + bytes → c.first_accesses byte ≡ None →
         IsJustRead y next n new address bytes → IsReadFirst y next n new byte
     first_here byte address bytes from to none j =
         let unbound = none_bound new j.goes.committed in
+        let of : IsByteOf y j.variable j.number byte = record { address = address; bytes = bytes; at = j.at; from = from; to = to } in
         record {
           variable = j.variable;
           number = j.number;
-          address = address;
-          bytes = bytes;
-          at = j.at;
-          from = from;
-          to = to;
+          of = of;
           step = j.step;
           below = omega (arith, j.last);
           read = j.read;
           unwritten = λ writes.
-              reads.written (back stays unbound) j.variable j.number address bytes byte
-              (record { before = writes.before; within = omega (arith, writes.within, j.last, at_most); at = writes.at }) j.at from to none;
+              reads.written (back stays unbound) j.variable j.number byte
+              (record { before = writes.before; within = omega (arith, writes.within, j.last, at_most); at = writes.at }) of none;
           unbound = unbound;
         }
 
-    loaded_now : (byte : ℕ) → c.first_accesses byte ≡ None → (l : IsLoadOf byte effect) → IsReadFirst y next n new byte
+    loaded_here : (byte address bytes : ℕ) → address ≤ byte → byte < address + bytes → c.first_accesses byte ≡ None →
+        IsLoaded y next n new address bytes → IsLoadedFirst y next n new byte
+    loaded_here byte address bytes from to none (just_read j) = read_first (first_here byte address bytes from to none j)
+    loaded_here byte address bytes from to none (own_word own eight) =
+        in_own_frame (record { address = address; own = own; from = from; to = omega (arith, to, eight) })
+    loaded_here byte address bytes from to none (read_ahead variable number at framed there) = loaded_ahead (record {
+      framed = framed;
+      variable = variable;
+      number = number;
+      of = record { address = address; bytes = bytes; at = at; from = from; to = to };
+      since = inl there;
+    })
+
+    loaded_now : (byte : ℕ) → c.first_accesses byte ≡ None → (l : IsLoadOf byte effect) → IsLoadedFirst y next n new byte
     loaded_now byte none l =
         let given : (value : ℕ) × (environment.around.loads l.address l.bytes ≡ Some value) = subst (AreAnswered environment) l.is x.answered in
-        first_here byte l.address l.bytes l.from l.to none (x.just l.address l.bytes given.0 given.1)
+        loaded_here byte l.address l.bytes l.from l.to none (x.loaded l.address l.bytes given.0 given.1)
 
     abbrev points_now : Bool
     points_now = stores_point y.runs.program w (Step n) n
@@ -140,43 +177,34 @@ module _ {y : System} {code : Code y.plan} (p : Passage y code) where
     unbound_by point old true is was then points none free =
         absurd (true≢false (sym (points ∙ (λ i. not ((was ∙ free) i) && then i)) ∙ (is ∙ none)))
 
-    bound_by : (point later : Bool) → points_now ≡ point → is_bound new ≡ later → points_now ≡ (not (is_bound c) && is_bound new) →
-        later ≡ false → point ≡ false
+    bound_by : (point later : Bool) → points_now ≡ point → is_bound new ≡ later → points_now ≡ (not (is_bound c) && is_bound new) → later ≡ false →
+        point ≡ false
     bound_by false later is then points free = refl
     bound_by true later is then points free =
-        absurd (true≢false (sym is ∙ (points ∙ ap (λ (b : Bool). not (is_bound c) && b) (then ∙ free) ∙ right_false (not (is_bound c)))))
-      where
-        right_false : (b : Bool) → (b && false) ≡ false
-        right_false true = refl
-        right_false false = refl
+        absurd (true≢false (sym is ∙ (points ∙ ap (λ (b : Bool). not (is_bound c) && b) (then ∙ free) ∙ and_none (not (is_bound c)))))
 
-    pub reads_after : Accessed → points_now ≡ (not (is_bound c) && is_bound new) →
-        ((variable number address bytes byte : ℕ) → is_bound new ≡ false → Writes b.config.kept n now variable number →
-        IsElementAt y variable number address bytes → address ≤ byte → byte < address + bytes →
-        Writes b.config.kept n before variable number ⊎ (completes (stores_to byte) y.runs.program w (Step n) n ≡ true)) →
-        HasRead y next n new
+    pub reads_after : Accessed → points_now ≡ (not (is_bound c) && is_bound new) → AccessesWritten → HasRead y next n new
     reads_after accessed points stored = record { read = read; written = written }
       where
-        read : (byte : ℕ) → new.first_accesses byte ≡ Some load → IsReadFirst y next n new byte
+        read : (byte : ℕ) → new.first_accesses byte ≡ Some load → IsLoadedFirst y next n new byte
         read byte is =
-            let first = loaded_first points_now (completes (loads_from byte) y.runs.program w (Step n) n)
-            (completes (stores_to byte) y.runs.program w (Step n) n)
+            let first =
+            loaded_first points_now (completes (loads_from byte) y.runs.program w (Step n) n) (completes (stores_to byte) y.runs.program w (Step n) n)
             (c.first_accesses byte) (sym (accessed byte) ∙ is) in
             elim first.1 [
               | inl was ↦
-                  let r = reads.read byte was in
-                  still (unbound_by points_now (is_bound c) (is_bound new) refl refl refl points first.0 r.unbound) grows byte r
+                  loaded_still stands begun (unbound_by points_now (is_bound c) (is_bound new) refl refl refl points first.0) grows byte (reads.read byte was)
               | inr now_loaded ↦
                   loaded_now byte now_loaded.0
                   (loads_it byte effect (completed_is (loads_from byte) y.runs.program w n x.hart effect x.is_next now_loaded.1))
             ]
 
-        written : is_bound new ≡ false → (variable number address bytes byte : ℕ) → Writes b.config.kept n now variable number →
-            IsElementAt y variable number address bytes → address ≤ byte → byte < address + bytes → new.first_accesses byte ≢ None
-        written unbound variable number address bytes byte writes at from to none =
+        written : is_bound new ≡ false → (variable number byte : ℕ) → Writes b.config.kept n now variable number → IsByteOf y variable number byte →
+            new.first_accesses byte ≢ None
+        written unbound variable number byte writes of none =
             accessed_then points_now (completes (loads_from byte) y.runs.program w (Step n) n) (completes (stores_to byte) y.runs.program w (Step n) n)
             (c.first_accesses byte) (bound_by points_now (is_bound new) refl refl points unbound)
-            (elim (stored variable number address bytes byte unbound writes at from to) [
-              | inl old ↦ inl (reads.written (back stays unbound) variable number address bytes byte old at from to)
+            (elim (stored variable number byte writes of) [
+              | inl old ↦ inl (reads.written (back stays unbound) variable number byte old of)
               | inr made ↦ inr made
             ]) (sym (accessed byte) ∙ none)

@@ -5,6 +5,7 @@ use Rattle.crash_simulation.proofs.Common.{runs_from, ended_from, ends_section, 
 use Rattle.crash_simulation.proofs.Common.{unlocks_held, mutex_passed, ends_by, World, is_empty, solo, IsInner, now, attempt_of, Invariant, steps_begun}
 use Rattle.crash_simulation.proofs.Common.{IsKeptBy, more_empty, solo_holders, last_first, prefix_runs, last_step, same_other, Origin, locks_held, ExitPoint}
 use Rattle.crash_simulation.proofs.Common.{Code, none_where, AbstractRun, now_of, StepsOrStutters, sections_kept, one_if, System, IsSystem, flat_of}
+use Rattle.crash_simulation.proofs.Common.{HasLocked, HasUnlocked}
 use Rattle.crash_simulation.proofs.Common.{ThreadGhost, ThreadInv, ExitInv}
 use Rattle.source_machine.proofs.Public.{stepped, solo as solo_law}
 use Rattle.crash_simulation.proofs.LastReleases.{holds_some, describes_test}
@@ -117,7 +118,7 @@ module _ (y : System) (s : IsSystem y) (w : World) (b : AbstractRun y) (code : C
   Leaves = ended_from K (replicate (steps_begun b.config u) u) u ≡ one_if (is_some c.giving && (c.new.point == 0))
 
   -- it stands between sections then where the record's point is 0
-  now_between : is_between (solo K u (steps_begun b.config u)) u ≡ (c.new.point == 0)
+  pub now_between : is_between (solo K u (steps_begun b.config u)) u ≡ (c.new.point == 0)
   now_between =
       between_same (now b.config) (solo K u (steps_begun b.config u)) u (sym (solo_law x K b.config.uncommitted u kept_keeps run hands).same.held)
       ∙ (ap (λ (hs : List (Option ℕ)). holds_none hs u)
@@ -130,27 +131,32 @@ module _ (y : System) (s : IsSystem y) (w : World) (b : AbstractRun y) (code : C
   none_given : c.giving ≡ None → 0 ≡ one_if (is_some c.giving && (c.new.point == 0))
   none_given none = ap (λ (o : Option ℕ). one_if (is_some o && (c.new.point == 0))) (sym none)
 
+  -- after a lock it holds that mutex
+  pub took_holds : (mutex : ℕ) → HasLocked b.config u mutex → is_between (solo K u (steps_begun b.config u)) u ≡ false
+  took_holds mutex h =
+      let last = last_step K u done (subst (λ (n : ℕ). runs_from K (replicate n u) ≡ true) h.begun (runs y s b u)) in
+      let step = stepped x (solo K u done) last.next u keeps_there last.is in
+      let takes : Passed = record { mutex = mutex; holder = Some u } in
+      let ahead : step.does.change.passed ≡ Some takes = step.does.ahead mutex (sym (locks_found (solo K u done) u step.thread step.there) ∙ h.locks_it) in
+      ap (λ (n : ℕ). is_between (solo K u n) u) h.begun ∙ (ap (λ (q : State). is_between q u) last.after
+      ∙ holds_some u last.next.holders mutex (mutex_passed x (solo K u done) last.next u step takes ahead))
+
+  -- before an unlock it held that one
+  pub gave_held : (mutex : ℕ) → HasUnlocked b.config u mutex → is_between K u ≡ false
+  gave_held mutex h =
+      sym (between_on y s b u) ∙ holds_some u (solo K u done).holders mutex (unlocks_held x (solo K u done) u mutex keeps_there h.unlocks_it)
+
   leaves_by : (exit : ExitPoint) → IsAtBoundary exit → ExitInv y b.config u c t.graph_thread exit → Leaves
-  leaves_by _ at_keeps h =
+  leaves_by _ (at_keeps owed) h =
       own_ends y s b u ∙ (none_ends (is_between K u) (is_between (solo K u (steps_begun b.config u)) u)
       (ap (λ (n : ℕ). is_between (solo K u n) u) h.1 ∙ between_on y s b u) ∙ none_given h.2.gives)
   -- a lock ends none
   leaves_by _ (at_took from) g =
-      let h = (g.before not_yet).1 in
-      let last = last_step K u done (subst (λ (n : ℕ). runs_from K (replicate n u) ≡ true) h.begun (runs y s b u)) in
-      let step = stepped x (solo K u done) last.next u keeps_there last.is in
-      let mutex = (g.before not_yet).0 in
-      let takes : Passed = record { mutex = mutex; holder = Some u } in
-      let ahead : step.does.change.passed ≡ Some takes = step.does.ahead mutex (sym (locks_found (solo K u done) u step.thread step.there) ∙ h.locks_it) in
-      let held : is_between (solo K u (steps_begun b.config u)) u ≡ false =
-      ap (λ (n : ℕ). is_between (solo K u n) u) h.begun ∙ (ap (λ (q : State). is_between q u) last.after
-      ∙ holds_some u last.next.holders mutex (mutex_passed x (solo K u done) last.next u step takes ahead)) in
-      own_ends y s b u ∙ (ap (λ (later : Bool). one_if (not (is_between K u) && later)) held ∙ (none_after (is_between K u) ∙ none_given g.gives))
+      own_ends y s b u ∙ (ap (λ (later : Bool). one_if (not (is_between K u) && later)) (took_holds (g.before not_yet).0 (g.before not_yet).1)
+      ∙ (none_after (is_between K u) ∙ none_given g.gives))
   -- an unlock ends one where the record's point is 0
   leaves_by _ (at_gives from mutex) g =
-      let h = g.before not_yet in
-      let held : is_between K u ≡ false =
-      sym (between_on y s b u) ∙ holds_some u (solo K u done).holders mutex (unlocks_held x (solo K u done) u mutex keeps_there h.unlocks_it) in
+      let held = gave_held mutex (g.before not_yet) in
       own_ends y s b u
       ∙ ((λ j. one_if (not (held j) && now_between j)) ∙ ap (λ (o : Option ℕ). one_if (is_some o && (c.new.point == 0))) (sym g.gives))
 

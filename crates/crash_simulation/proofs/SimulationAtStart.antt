@@ -1,21 +1,20 @@
 -- After a crash, and where recovery begins with words that describe an origin, the machine simulates an abstract run.
 
+use Rattle.crash_simulation.proofs.Common.{◌≤◌, true≢false, IsFrameFlushed, IsFrameWord, IsSectioned, NodePlace, frame_reached, frame_word, last_position}
+use Rattle.crash_simulation.proofs.Common.{word_at}
+use Rattle.ido_base.proofs.Public.{higher_all}
+use Rattle.crash_simulation.proofs.FrameWords.{anew_settled}
 use Rattle.crash_simulation.proofs.Common.{◌≡◌, ℕ, List, ◌∷◌, sym, ◌∙◌, ap, arith, subst, true, Option, Some, None, refl, suc, ◌<◌, [], ◌++◌, length, zero}
-use Rattle.crash_simulation.proofs.Common.{replicate, slice_get, true≢false, append-nil, map, Contains, option_map, length-replicate}
-use Rattle.crash_simulation.proofs.Common.{none-some, same_Some, word_count, Word, durable_value, word_of, Crash, Log}
-use Rattle.crash_simulation.proofs.Common.{steps_of, IsWellFormedWorld, Hart, World, happens, after_event, after_crash_of}
-use Rattle.crash_simulation.proofs.Common.{resume_of, Slot, Phase, crashes_simulate}
-use Rattle.crash_simulation.proofs.Common.{GraphThread, graph_after, AreCuts, at_boundary, NodeAt, lowered, Action}
-use Rattle.crash_simulation.proofs.Common.{Graph, successors, found_in, durable_variables, well_formed_placed, crashes_hold, durable_are_memory}
-use Rattle.crash_simulation.proofs.Common.{Attempt, attempt_at, attempt_of, Memory, durable_number, crashed}
-use Rattle.crash_simulation.proofs.Common.{AreStable, crashes, IsAgain, then, first_config, memory_in, crashed_are_stable, none_yet}
-use Rattle.crash_simulation.proofs.Common.{Resumes, BeginsAtBoundaries, flow_kept, node_of, Origin}
-use Rattle.crash_simulation.proofs.Common.{LogInv, Record, nothing_recorded, config_of, contains_first, ends_committed}
-use Rattle.crash_simulation.proofs.Common.{AreShort, queues_stay_short}
-use Rattle.crash_simulation.proofs.Common.{Code, ResumesAt, Describes, past_lock, at_chosen}
-use Rattle.crash_simulation.proofs.Common.{AllDescribe, past_unlock, between, inside, Gathers, AreGathering, crashes_gather, AbstractRun, kept_of}
-use Rattle.crash_simulation.proofs.Common.{now_of, CrashSimulates, IsRecoveredFrom, RecoveredWordsSimulate, Simulates, gathering}
-use Rattle.crash_simulation.proofs.Common.{IsMachineOf, most_ahead, System, IsSystem, thread_count, flat_of, places_of, Rests, ThreadGhost}
+use Rattle.crash_simulation.proofs.Common.{replicate, slice_get, append-nil, map, Contains, option_map, length-replicate, none-some, same_Some, word_count}
+use Rattle.crash_simulation.proofs.Common.{Word, durable_value, word_of, Crash, Log, steps_of, IsWellFormedWorld, Hart, World, happens, after_event}
+use Rattle.crash_simulation.proofs.Common.{after_crash_of, resume_of, Slot, Phase, crashes_simulate, GraphThread, graph_after, AreCuts, at_boundary, NodeAt}
+use Rattle.crash_simulation.proofs.Common.{lowered, Action, Graph, successors, found_in, durable_variables, well_formed_placed, crashes_hold}
+use Rattle.crash_simulation.proofs.Common.{durable_are_memory, Attempt, attempt_at, attempt_of, Memory, durable_number, crashed, AreStable, crashes, IsAgain}
+use Rattle.crash_simulation.proofs.Common.{then, first_config, memory_in, crashed_are_stable, none_yet, Resumes, BeginsAtBoundaries, flow_kept, node_of}
+use Rattle.crash_simulation.proofs.Common.{Origin, LogInv, Record, nothing_recorded, config_of, contains_first, ends_committed, AreShort, queues_stay_short}
+use Rattle.crash_simulation.proofs.Common.{Code, ResumesAt, Describes, past_lock, at_chosen, AllDescribe, past_unlock, between, inside, Gathers, AreGathering}
+use Rattle.crash_simulation.proofs.Common.{crashes_gather, AbstractRun, kept_of, now_of, CrashSimulates, IsRecoveredFrom, RecoveredWordsSimulate, Simulates}
+use Rattle.crash_simulation.proofs.Common.{gathering, IsMachineOf, most_ahead, System, IsSystem, thread_count, flat_of, places_of, Rests, ThreadGhost}
 use Rattle.crash_simulation.proofs.Common.{InPhase, ThreadInv}
 use Rattle.recovery_semantics.specs.Executions.{begins}
 use Rattle.flow_graph.specs.IdempotentCuts as cutting
@@ -28,6 +27,11 @@ use Rattle.crash_simulation.proofs.ThreadViews.{none_clean, none_stored, records
 use Rattle.crash_simulation.proofs.ThreadsOfMachines.{machine_stays}
 use Rattle.crash_simulation.proofs.LastReleases.{holds_some}
 
+-- what a crash leaves in memory
+pub crashes_leave : (program : List (List Slot)) (w : World) → (after_event program w Crash).words ≡ map word_of (map durable_value w.words)
+unfolding happens after_crash_of
+crashes_leave program w = refl
+
 -- ---- A machine whose harts begin to gather the locks of records simulates an abstract run at the state that these describe
 
 -- the machine's harts gather the locks of the records, which describe what the abstract run has kept: no more is begun
@@ -38,6 +42,8 @@ pub record BeginsAgain (y : System) (s : IsSystem y) (v : World) (abstract : Abs
   pub fresh : (n : ℕ) → (attempt_of abstract.config n).done ≡ 0
   pub gathers : AreGathering v records
   pub describe : AllDescribe y.plan s.codes (kept_of y abstract) records
+  -- all that is stored is durable
+  pub settled : (word : ℕ) → last_position (word_at v.words word) ≤ (word_at v.words word).durable
 
 -- a thread that has begun nothing since the boundary of its record, where a run begins
 abbrev pub resting_ghost : System → Record → (n : ℕ) → ThreadGhost
@@ -56,15 +62,17 @@ resting_ghost y r n = record {
 pub resting_thread : (y : System) (v : World) (b : AbstractRun y) (code : Code y.plan) (r : Record) (n : ℕ) (graph_thread : GraphThread)
     (log : LogInv code.thread.number nothing_recorded r v []) → Describes y.plan code (kept_of y b) r → (attempt_of b.config code.thread.number).done ≡ 0 →
     slice_get (now_of y b).graph_threads code.thread.number ≡ Some graph_thread →
-    InPhase y v b code (resting_ghost y r n) log.hart graph_thread log.hart.phase → ThreadInv y v b code (resting_ghost y r n)
-resting_thread y v b code r n graph_thread log describes none walks phase = record {
+    InPhase y v b code (resting_ghost y r n) log.hart graph_thread log.hart.phase →
+    (IsSectioned (resting_ghost y r n) → (word : ℕ) → IsFrameWord v.log word → IsFrameFlushed y v b code (resting_ghost y r n) log.hart word) →
+    ThreadInv y v b code (resting_ghost y r n)
+resting_thread y v b code r n graph_thread log describes none walks phase frames = record {
   log = log;
   records = records_over y b code (resting_ghost y r n) refl refl
       (ends_committed v.log code.thread.number nothing_recorded r (config_of v log.hart []) log.log refl) describes;
   graph_thread = graph_thread;
   walks = walks;
   phase = phase;
-  stored = none_stored y v b code (resting_ghost y r n) log.hart none none_clean (λ word position is. absurd (none-some position is));
+  stored = none_stored y v b code (resting_ghost y r n) log.hart none none_clean (λ word position is. absurd (none-some position is)) frames;
   has_read = none_read y b code.thread.number (resting_ghost y r n) none (λ byte is. none-some load is);
 }
 
@@ -97,6 +105,11 @@ module _ (y : System) (s : IsSystem y) (v : World) (abstract : AbstractRun y) (r
       resting_thread y v abstract code (records n) n found.0 log (again.describe n below) none
       (ap (λ (us : List ℕ). slice_get (graph_after (lowered (flat_of y)) (kept_of y abstract) us).graph_threads code.thread.number) again.none ∙ found.1)
       (in_phase code n log.hart found.0 log.hart.phase (again.gathers.each n log.hart (ap (slice_get v.harts) (sym same) ∙ log.here)) rests)
+      (λ sectioned word framed. record {
+        comes = frame_reached (let low = again.settled (frame_word v.log code.thread.number word) in
+            let later = (higher_all v.words log.hart.queue).each (frame_word v.log code.thread.number word) in omega (arith, low, later));
+        fenced = λ un. absurd (true≢false un);
+      })
 
   abbrev pub gathering_simulates : Simulates y s v
   gathering_simulates = record {
@@ -172,6 +185,8 @@ module _ (y : System) (s : IsSystem y) (w : World) (stands : Simulates y s w) wh
     fresh = done_again b.config.attempts;
     gathers = gathers;
     describe = describe;
+    settled = λ word. subst (λ (ws : List Word). last_position (word_at ws word) ≤ (word_at ws word).durable) (sym (crashes_leave y.runs.program w))
+        (anew_settled (map durable_value w.words) word);
   })
 
 pub crash_simulates : CrashSimulates
@@ -243,16 +258,17 @@ module _ (y : System) (s : IsSystem y) (o : Origin (flat_of y)) (words : List �
   cuts = subst (λ (g : Graph). AreCuts g y.plan.boundaries) s.plan.lowered s.plan.cuts
 
   -- a thread stands where its record resumes it
-  pub resumes_at : (code : Code y.plan) (node address : ℕ) → ResumesAt y.plan code node address → Resumes (lowered (flat_of y)) y.plan.boundaries node
-  resumes_at code node address (at_chosen chosen) = attempts.begins (at_boundary chosen.stands)
-  resumes_at code node address (past_lock from lock it own there takes) =
+  pub resumes_at : (code : Code y.plan) (node : ℕ) (place : NodePlace) (address : ℕ) → ResumesAt y.plan code node place address →
+      Resumes (lowered (flat_of y)) y.plan.boundaries node
+  resumes_at code node _ address (at_chosen chosen) = attempts.begins (at_boundary chosen.stands)
+  resumes_at code node _ address (past_lock from lock it own there takes) =
       let at : NodeAt (lowered (flat_of y)) from it = subst (λ (g : Graph). NodeAt g from it) s.plan.lowered there in
       attempts.begins (cutting.past_lock from (cuts.past_locks from (cutting.locks it lock node at takes)) (record {
         is = it;
         at = at;
         goes = subst (λ (a : Action). Contains (successors a) node) (sym takes) (contains_first node []);
       }))
-  resumes_at code node address (past_unlock from lock it own there gives holds) =
+  resumes_at code node _ address (past_unlock from lock it own there gives holds) =
       let at : NodeAt (lowered (flat_of y)) from it = subst (λ (g : Graph). NodeAt g from it) s.plan.lowered there in
       attempts.past_unlock from (cutting.unlocks it lock node at gives) (record {
         is = it;
@@ -265,7 +281,7 @@ module _ (y : System) (s : IsSystem y) (o : Origin (flat_of y)) (words : List �
   boundary_by code mutex node r held at (between none point) = absurd (true≢false (sym none ∙ holds_some code.thread.number o.flow.holders mutex held))
   boundary_by code mutex node r held at (inside some i) =
       let same : i.graph_thread.at ≡ node = same_Some i.graph_thread.at node (ap (option_map (λ (g : GraphThread). g.at)) (sym i.there) ∙ at) in
-      subst (λ (k : ℕ). Resumes (lowered (flat_of y)) y.plan.boundaries k) same (resumes_at code i.graph_thread.at (resume_of r.point) i.resumes)
+      subst (λ (k : ℕ). Resumes (lowered (flat_of y)) y.plan.boundaries k) same (resumes_at code i.graph_thread.at i.place (resume_of r.point) i.resumes)
 
   pub at_boundaries : BeginsAtBoundaries (flat_of y) y.plan.boundaries o
   at_boundaries t mutex node held at =
@@ -301,6 +317,7 @@ module _ (y : System) (s : IsSystem y) (o : Origin (flat_of y)) (words : List �
     fresh = λ n. ap (λ (a : Attempt). a.done) (none_yet (flat_of y).threads n);
     gathers = is.recovers.gathering;
     describe = is.recovers.describe;
+    settled = λ word. subst (λ (ws : List Word). last_position (word_at ws word) ≤ (word_at ws word).durable) (sym words_are) (anew_settled words word);
   })
 
 pub recovered_words_simulate : RecoveredWordsSimulate

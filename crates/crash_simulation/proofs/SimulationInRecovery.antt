@@ -1,4 +1,22 @@
 -- Steps of harts that gather their locks, of those that recovery resumes, and of those that have stopped.
+use Rattle.crash_simulation.proofs.Common.{true, AssignsAlike, HasView, IsPlaced, IsSameTo, Log, LogView, NodePlace, Word, frame_at, frame_in, home_of}
+use Rattle.crash_simulation.proofs.Common.{live_value, run_keeps, solo, the_core, the_entry}
+use Rattle.expr_code.specs.declared.home.Home.TheVariants.{InFrame}
+use Rattle.machine_model.specs.Machine.{live_at}
+use Rattle.thread_code.proofs.Public.{enters_again, ready_again}
+use Rattle.recovered_threads.specs.RecordDescriptions.{AreCounted, CountsOn, MayGoOn}
+use Rattle.recovered_threads.specs.RecoveryStates.{view_resumed}
+use Rattle.source_machine.proofs.Public.{solo as solo_law}
+use Rattle.crash_simulation.proofs.AssignmentsAlike.{assigns_alike}
+use Rattle.crash_simulation.proofs.NodeEnvironments.{placed_here}
+use Rattle.crash_simulation.proofs.ReadyHarts.{ready_side, write_comes}
+use Rattle.crash_simulation.proofs.ChosenNodes.{chosen_writes}
+use Rattle.crash_simulation.proofs.NodeEffects.{some_node}
+use Rattle.crash_simulation.proofs.Common.{Graph, None, is_some}
+use Rattle.recovered_threads.specs.RecordDescriptions.{ComesNext}
+use Rattle.crash_simulation.proofs.StatesMatchSource.{as_source, now_good}
+use Rattle.crash_simulation.proofs.StatesMatchSource.{resumed as resumed_source}
+use Rattle.crash_simulation.proofs.ThreadViews.{owed_on}
 use Rattle.crash_simulation.proofs.Common.{◌≡◌, ◌≢◌, ℕ, List, sym, ◌∙◌, ap, arith, subst, Option, Some, refl, ◌<◌, [], ◌++◌, length, ◌⊎◌, inl, inr, slice_get}
 use Rattle.crash_simulation.proofs.Common.{◌≤◌, ap₂, Contains, none-some, Step, Reply, Still, Waits, Barrier, lock_number, Hart, World, happens, after_event}
 use Rattle.crash_simulation.proofs.Common.{Outcome, with_holder, moved, resume_of, Effect, Phase, Done, Take, Wait, Resume, Ended, GraphThread, FlowState}
@@ -19,8 +37,7 @@ use Rattle.crash_simulation.proofs.KeptThreads.{phase_moves, others_stand}
 use Rattle.crash_simulation.proofs.ThreadViews.{IsQuiet, describes_over, moves_alone}
 use Rattle.crash_simulation.proofs.ThreadsOfMachines.{machine_stays, phase_of}
 use Rattle.crash_simulation.proofs.CommitSimulation.{commit_stutters}
-use Rattle.crash_simulation.proofs.LoadFreeEnvironment.{bare, bare_agrees, bare_meets, bare_answers, bare_just_read, placed}
-use Rattle.crash_simulation.proofs.ChosenNodes.{plain_after_lock, plain_after_unlock}
+use Rattle.crash_simulation.proofs.LoadFreeEnvironment.{bare, bare_agrees, bare_meets, bare_answers, placed, bare_loaded}
 use Rattle.crash_simulation.proofs.GraphAfterBegin.{alone}
 use Rattle.crash_simulation.proofs.OwnHartSteps.{view, same_number}
 use Rattle.crash_simulation.proofs.StepsAfterMarks.{entry_soon, core_less, whole_soon, most_is, fits_by}
@@ -249,8 +266,16 @@ module _ (y : System) (s : IsSystem y) (w : World) (h : ℕ) (stands : Simulates
     machine : IsMachineOf y resumed
     machine = machine_stays y s w (Step h) stands.machine
 
-    abbrev side : ℕ
-    side = side_of ghost.new
+    -- the thread's log as memory has it
+    abbrev seen_log : LogView
+    seen_log = record { side = side_of ghost.new; frame = live_at w.words }
+
+    same_words : resumed.words ≡ w.words
+    same_words = (moved_is y s w h stands w i.hart go.after i.here
+        (subst (λ (k : ℕ). happens y.runs.program w (Step k) ≡ moved w k go.after) (same_number site) go.does) refl refl go.queue).words
+
+    has_view : HasView resumed n seen_log
+    has_view word framed = ap (λ (ws : List Word). live_value (frame_in resumed.log ws n word)) same_words
 
     goes : IsInAttempt y b.config n ghost
     goes = record { going = rests.begun ∙ sym rests.done; rest = rests.rest; giving = rests.giving; committed = rests.committed }
@@ -258,59 +283,123 @@ module _ (y : System) (s : IsSystem y) (w : World) (h : ℕ) (stands : Simulates
     short : length go.after.queue ≤ 16
     short = machine.short h go.after there
 
+    placed_now : IsPlaced y.plan code.thread places w.log (length w.harts)
+    placed_now = placed_here site
+
     abbrev IsHere : ℕ → Type 0
     IsHere address = IsRunningAt resumed n (config go.after.registers address)
 
-    runs_at_core : IsHere (places.core graph_thread.at) → IsRunningThread y resumed b code ghost go.after graph_thread
-    runs_at_core at = at_core (record {
-      side = side;
+    -- a word of the frame on which it counts has its number
+    counted_on : (place : NodePlace) → place ≡ go.told.place → (local address : ℕ) → CountsOn y.plan code.thread graph_thread.at place local →
+        home_of code.thread.locals local ≡ InFrame address → live_at w.words address ≡ go.told.view.frame address
+    counted_on place same local address counts home =
+        let own = placed_now.words local address home in
+        let d = go.frame own.word (record {
+          local = local;
+          counted = subst (λ (x : NodePlace). CountsOn y.plan code.thread graph_thread.at x local) same counts;
+          home = home ∙ ap (λ (k : ℕ). InFrame k) (own.is ∙ ap (λ (l : Log). frame_at l n own.word) (sym stands.machine.log));
+        }) in
+        ap (live_at w.words) own.is ∙ (d.live
+        ∙ ap go.told.view.frame (ap (λ (l : Log). frame_at l n own.word) stands.machine.log ∙ sym own.is))
+
+    abbrev may_there : NodePlace → Type 0
+    may_there place = MayGoOn y.plan code.thread graph_thread.at place (seen_by (kept_of y b) graph_thread) seen_log go.told.owed go.after.registers
+
+    may_now : (place : NodePlace) → place ≡ go.told.place →
+        MayGoOn y.plan code.thread graph_thread.at place (seen_by (kept_of y b) graph_thread) (view_resumed ghost.new go.told.view) go.told.owed
+        go.after.registers →
+        may_there place
+    may_now the_entry same may =
+        enters_again y.plan code.thread graph_thread.at (seen_by (kept_of y b) graph_thread) (view_resumed ghost.new go.told.view) seen_log go.after.registers
+        go.after.registers (places.live graph_thread.at) (code.is.live graph_thread.at of_thread) may may.at_side
+        (λ local address live home. counted_on the_entry same local address live home) (λ register has. refl)
+    may_now the_core same may = (
+      ready_again y.plan code.thread graph_thread.at (seen_by (kept_of y b) graph_thread) (view_resumed ghost.new go.told.view) seen_log go.told.owed
+          go.after.registers go.after.registers (places.kept graph_thread.at) (code.is.kept graph_thread.at of_thread) may.0
+          (ready_side y code graph_thread.at (seen_by (kept_of y b) graph_thread) (view_resumed ghost.new go.told.view) go.told.owed go.after.registers may.0)
+          (λ local address counts home. counted_on the_core same local address counts home) (λ register has. refl),
+      may.1,
+    )
+
+    kept_alike : AssignsAlike y.plan code.thread (kept_of y b) (now_of y b)
+    kept_alike =
+        let r = (resumed_source y s b).resumed.invariant in
+        let source = as_source y s b in
+        assigns_alike y.plan s.plan code.thread (now_of y b) (kept_of y b) (now b.config) b.config.kept source.now_matches source.kept_matches (now_good y s b)
+        (run_keeps (flat_of y) b.config.kept b.config.uncommitted r.keeps)
+        (subst (λ (k : ℕ). IsSameTo (flat_of y) (now b.config) (solo b.config.kept n k) n) rests.begun
+        (solo_law (flat_of y) b.config.kept b.config.uncommitted n r.keeps r.runs r.hands).same)
+        (alone y s b n ∙ ap (λ (k : ℕ). slice_get (flow_solo (flat_of y) (kept_of y b) n k).graph_threads n) rests.begun)
+
+    -- of a write that comes after a chosen boundary its record is told
+    chosen_told : IsChosen y.plan.graph y.plan.boundaries graph_thread.at → ComesNext y.plan graph_thread.at the_core ghost.new.written →
+        is_some ghost.new.written ≡ true
+    chosen_told chosen next =
+        let found = some_node (flat_of y) s.plan.formed (kept_of y b) b.config.kept n (as_source y s b).kept_matches graph_thread go.told.there in
+        let at : NodeAt y.plan.graph graph_thread.at found.0 = subst (λ (g : Graph). NodeAt g graph_thread.at found.0) (sym s.plan.lowered) found.1 in
+        ap is_some (next found.0 at) ∙ write_comes (chosen_writes y s graph_thread.at found.0 at chosen)
+
+    runs_at_core : IsChosen y.plan.graph y.plan.boundaries graph_thread.at → ComesNext y.plan graph_thread.at the_core ghost.new.written →
+        may_there the_core → AreCounted y.plan code.thread graph_thread.at the_core ghost.new.framed → IsHere (places.core graph_thread.at) →
+        IsRunningThread y resumed b code ghost go.after graph_thread
+    runs_at_core chosen next may counted at = at_core (record {
+      view = seen_log;
       at_side = λ some. refl;
+      frame = has_view;
+      owed = go.told.owed;
       registers = go.after.registers;
       core =
-          cores_see_all y.plan code.thread places resumed n graph_thread.at (seen_by (kept_of y b) graph_thread) side go.after.registers
-          (now_of y b).variables (record { own = of_thread; at = at; enters = go.enters });
+          cores_see_all y.plan code.thread places resumed n graph_thread.at (seen_by (kept_of y b) graph_thread) seen_log go.told.owed go.after.registers
+          (now_of y b).variables (record { own = of_thread; at = at; ready = may.0 });
+      owes = owed_on y code ghost ghost (kept_of y b) (now_of y b) graph_thread go.told.owed go.told.there kept_alike refl
+          (record { number = may.1; beside = λ logged. counted });
       goes = record { goes = goes; cleans = rests.cleans; execution = go.told.goes_on };
-      fresh = λ chosen. rests.done;
+      fresh = λ is_chosen. rests.done;
+      told = λ is_chosen. chosen_told chosen next;
+      untold = λ plain. absurd (plain chosen);
       soon =
           let all = entry_soon y s h below graph_thread.at (length go.after.queue) of_thread short in
           whole_soon y n ghost.before_mark _ rests.whole (omega (arith, all, core_less y.plan places graph_thread.at));
     })
 
     -- resumed a lock or an unlock, whose code leads to the node
-    runs_after : (from : ℕ) (is : Node) → IsNodeOf code.thread from → NodeAt y.plan.graph from is → Contains (successors is.action) graph_thread.at →
-        is.action ≢ End → ¬ (IsChosen y.plan.graph y.plan.boundaries graph_thread.at) → GoesOnFrom from graph_thread.at y.plan code.thread →
+    runs_after : ghost.new.written ≡ None → may_there the_entry → (from : ℕ) (is : Node) → IsNodeOf code.thread from → NodeAt y.plan.graph from is →
+        Contains (successors is.action) graph_thread.at → is.action ≢ End → GoesOnFrom from graph_thread.at y.plan code.thread →
         IsHere (places.after from) → IsRunningThread y resumed b code ghost go.after graph_thread
-    runs_after from is own found follows other plain leads at =
+    runs_after untold enters from is own found follows other leads at =
         let environment = bare y s resumed h below in
         let seen = seen_by (kept_of y b) graph_thread in
-        let fragment = leads y.runs.program code.program code.is resumed n environment seen side go.after.registers
-        (placed y s resumed h below machine.log machine.count) (bare_meets y s resumed h below) (bare_agrees y s resumed h below) at go.enters in
+        let fragment = leads y.runs.program code.program code.is resumed n environment seen seen_log go.after.registers
+        (placed y s resumed h below machine.log machine.count) (bare_meets y s resumed h below) (bare_agrees y s resumed h below) at enters in
         let none : ghost.cleans ++ ghost.rest ≡ [] = ap₂ ◌++◌ rests.cleans rests.rest in
         on_fragment Arrives fragment.steps (record {
           environment = environment;
           answers = bare_answers y s resumed h below (now b.config);
-          just_read = bare_just_read y s resumed h below b ghost;
-          side = side;
+          loaded = bare_loaded y s resumed h below b ghost;
+          view = seen_log;
           at_side = λ some. refl;
+          frame = has_view;
           fragment = subst (IsOnFragment y.plan code.thread places (on_machine y.runs.program resumed n environment) _ fragment.steps) (sym none)
               (fragments_see_all y.plan code.thread places y.runs.program resumed n environment _ fragment.steps [] (now_of y b).variables fragment.on);
-          fits = (goes, go.told.goes_on, λ chosen. absurd (plain chosen));
+          fits = (goes, go.told.goes_on, λ none_begun. ap is_some untold);
+          owes = tt;
           soon =
               let fit = fits_by y s h below from is own found graph_thread.at of_thread follows other in
               let no_cleans : cleans_in (seen_effects (ghost.cleans ++ ghost.rest)) ≡ 0 = ap (λ (es : List Effect). cleans_in (seen_effects es)) none in
               whole_soon y n ghost.before_mark _ rests.whole (omega (arith, fragment.short, short, most_is y s h below, no_cleans, fit));
         })
 
-    runs_by : (address : ℕ) → ResumesAt y.plan code graph_thread.at address → IsHere address → IsRunningThread y resumed b code ghost go.after graph_thread
-    runs_by _ (at_chosen chosen) at = runs_at_core at
-    runs_by _ (past_lock from lock is own found locks) at =
-        runs_after from is own found (subst (λ (z : Action). Contains (successors z) graph_thread.at) (sym locks) (0, omega arith, refl)) (λ ends. cc)
-        (plain_after_lock y s from graph_thread.at is lock found locks)
+    runs_by : (place : NodePlace) (address : ℕ) → ResumesAt y.plan code graph_thread.at place address →
+        ComesNext y.plan graph_thread.at place ghost.new.written → may_there place →
+        AreCounted y.plan code.thread graph_thread.at place ghost.new.framed → IsHere address → IsRunningThread y resumed b code ghost go.after graph_thread
+    runs_by _ _ (at_chosen chosen) next may counted at = runs_at_core chosen next may counted at
+    runs_by _ _ (past_lock from lock is own found locks) next may counted at =
+        runs_after next may from is own found (subst (λ (z : Action). Contains (successors z) graph_thread.at) (sym locks) (0, omega arith, refl)) (λ ends. cc)
         (locks_go_on y.plan code.thread from graph_thread.locals (lock_number graph_thread.locals lock) graph_thread.at
         (record { own = own; is = is; at = found; lock = lock; locks = locks; number = refl })) at
-    runs_by _ (past_unlock from lock is own found unlocks holds) at =
-        runs_after from is own found (subst (λ (z : Action). Contains (successors z) graph_thread.at) (sym unlocks) (0, omega arith, refl)) (λ ends. cc)
-        (plain_after_unlock y s from graph_thread.at is lock found unlocks)
+    runs_by _ _ (past_unlock from lock is own found unlocks holds) next may counted at =
+        runs_after next may from is own found (subst (λ (z : Action). Contains (successors z) graph_thread.at) (sym unlocks) (0, omega arith, refl))
+        (λ ends. cc)
         (unlocks_go_on y.plan code.thread from graph_thread.locals (lock_number graph_thread.locals lock) graph_thread.at
         (record { own = own; is = is; at = found; lock = lock; unlocks = unlocks; number = refl })) at
 
@@ -319,7 +408,8 @@ module _ (y : System) (s : IsSystem y) (w : World) (h : ℕ) (stands : Simulates
         let here : slice_get resumed.harts h ≡ Some new = (moved_is y s w h stands w i.hart new i.here does refl refl queue).here in
         let is : go.after ≡ new = same_there (slice_get resumed.harts h) go.after new there here in
         let runs : IsRunningThread y resumed b code ghost go.after (stands.each h below).graph_thread =
-        subst (IsRunningThread y resumed b code ghost go.after) same_graph_thread (runs_by (resume_of ghost.new.point) go.told.resumes (record {
+        subst (IsRunningThread y resumed b code ghost go.after) same_graph_thread
+        (runs_by go.told.place (resume_of ghost.new.point) go.told.resumes go.told.written (may_now go.told.place refl go.may) go.told.framed (record {
           hart = go.after;
           here = ap (slice_get resumed.harts) (same_number site) ∙ there;
           runs = go.runs;

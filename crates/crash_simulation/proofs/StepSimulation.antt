@@ -8,6 +8,7 @@ use Rattle.crash_simulation.proofs.Common.{flat_of, places_of, ThreadGhost, Thre
 use Rattle.crash_simulation.proofs.LocksAfterStep.{held_alike}
 use Rattle.crash_simulation.proofs.UncommittedSteps.{leads_on}
 use Rattle.crash_simulation.proofs.DisjointStores.{elsewhere, agrees_after}
+use Rattle.crash_simulation.proofs.FrameWords.{all_words}
 use Rattle.crash_simulation.proofs.KeptThreads.{led_on}
 use Rattle.crash_simulation.proofs.ThreadsOfMachines.{machine_stays, each_placed}
 
@@ -26,8 +27,8 @@ module _ (y : System) (s : IsSystem y) (w : World) (h : ℕ) (stands : Simulates
       led_on y stands.abstract code c w (Step h) (record {
         sound = sound;
         of_others = other;
-        moves = λ hart here. steps_move y.runs.program w h code.thread.number hart c.rest sound here
-            (elsewhere y s w h stands.abstract stands.machine.log o.stores_own code.thread.number other);
+        moves = λ hart here. steps_move y.runs.program all_words w h code.thread.number hart c.rest sound here
+            (elsewhere y s w h stands.abstract stands.machine.log o.stores_own code.thread.number other all_words);
         agrees = λ z answers agrees. agrees_after y s w h stands.abstract stands.machine.log o.stores_own code other z answers sound agrees i.hart i.here;
       }) s h (λ e. other (sym e)) o.next o.led (stands.each n below)
 
@@ -75,7 +76,7 @@ module _ (y : System) (s : IsSystem y) (w : World) (line mask : ℕ) (stands : S
       led_on y stands.abstract code c w (Evict line mask) (record {
         sound = stands.machine.sound;
         of_others = tt;
-        moves = λ hart here. evictions_move y.runs.program w line mask code.thread.number hart c.rest here;
+        moves = λ hart here. evictions_move y.runs.program all_words w line mask code.thread.number hart c.rest here;
         agrees = λ z answers agrees. evictions_agree y.runs.program w line mask code.thread.number z agrees;
       }) s (suc code.thread.number) (λ e. omega (arith, e)) run_after (goes next (persists persisted raises) tt abstract_persisted.0 abstract_persisted.1)
       (stands.each n below)

@@ -1,4 +1,7 @@
--- What is ahead of a thread up to its next mark fits into its code: no lock, unlock or store is followed by itself, and a thread's last node is its end.
+-- What is ahead of a thread up to its next mark fits into its code: no lock, unlock, store or assignment is followed by itself, and a thread's last node is
+-- its end.
+use Rattle.std.specs.Prelude.{true}
+use Rattle.boundary_code.specs.Boundaries.{frame_lines}
 use Rattle.crash_simulation.proofs.Common.{◌≡◌, ◌≢◌, ℕ, List, ◌∷◌, sym, ◌∙◌, ap, arith, subst, Option, Some, None, refl, suc, ◌+◌, ◌<◌, [], ◌++◌, length, Bool}
 use Rattle.crash_simulation.proofs.Common.{inl, inr, zero, slice_get, ◌≤◌, ◌-◌, ◌*◌, Contains, cond, cases_order, nat_tests, same_Some, slice_get_within, Place}
 use Rattle.crash_simulation.proofs.Common.{Kind, LockName, IsWellFormed, NodeAt, Standing, threads_standings, HasStandingAt, lowered, parts, threads_nodes}
@@ -8,7 +11,9 @@ use Rattle.crash_simulation.proofs.Common.{marked, Places, Plan, IsNodeOf, IsPla
 use Rattle.crash_simulation.proofs.Common.{any_at, Code, entry_ahead, most_ahead, IsSoon, weight, core_ahead, weight_at, System, IsSystem, thread_count}
 use Rattle.crash_simulation.proofs.Common.{flat_of}
 use Rattle.flow_graph.specs.Lowering.{table_of, thread_count as nodes_count}
+use Rattle.c_tree.specs.Exprs as e
 use Rattle.c_tree.specs.Flats as f
+use Rattle.crash_simulation.proofs.Common.{Eval}
 use Rattle.crash_simulation.proofs.LocksAtCalls.{standing_of}
 
 -- ---- What is left at a node
@@ -47,6 +52,11 @@ module _ (x : f.Flat) (w : IsWellFormed x) (node : ℕ) (is : Node) (at : NodeAt
 
   pub store_goes_on : (variable : ℕ) (kind : Kind) (next : ℕ) → is.action ≡ Store variable kind next → next ≢ node
   store_goes_on variable kind next e same = grind (arith, does_as, left_there, one_standing)
+
+  pub eval_goes_on : (target : e.Lvalue) (assigned : e.Placed) (next : ℕ) → is.action ≡ Eval target assigned next → next ≢ node
+  eval_goes_on (e.ToLocal place local kind) assigned next same back = grind (arith, does_as, left_there, no_rest, one_standing)
+  eval_goes_on (e.ToVariable place variable kind) assigned next same back = grind (arith, does_as, left_there, one_standing)
+  eval_goes_on (e.ToElement place variable kind index) assigned next same back = grind (arith, does_as, left_there, one_standing)
 
 -- ---- The last node of a thread
 
@@ -258,8 +268,8 @@ module _ (y : System) (s : IsSystem y) (h : ℕ) (below : h < thread_count y) wh
   abbrev L : ℕ
   L = length code.program.code
 
-  pub most_is : most_ahead y n ≡ 2 * L + 17
-  most_is = ap (λ (p : Program). 2 * length p.code + 17) (sym (s.own h below).program)
+  pub most_is : most_ahead y n ≡ 2 * L + 17 + length (frame_lines y.plan.log true)
+  most_is = ap (λ (p : Program). 2 * length p.code + 17 + length (frame_lines y.plan.log true)) (sym (s.own h below).program)
 
   -- at a node's entry or code, where so many entries are queued
   pub entry_soon : (node queued : ℕ) → IsNodeOf code.thread node → queued ≤ 16 → queued + entry_ahead y.plan c node ≤ most_ahead y n
@@ -294,7 +304,7 @@ module _ (y : System) (s : IsSystem y) (h : ℕ) (below : h < thread_count y) wh
 
       next_fits : (action : Action) → is.action ≡ action → Contains (successors action) next → action ≢ End →
           2 * c.words node + entry_ahead y.plan c next + 4 ≤ 2 * L
-      next_fits action same follows other = grind (arith, lock_goes_on, store_goes_on, unlock_goes_on, fits_here, light_apart, low_at, one_next)
+      next_fits action same follows other = grind (arith, eval_goes_on, lock_goes_on, store_goes_on, unlock_goes_on, fits_here, light_apart, low_at, one_next)
 
     -- each own node is there
     pub fits_by : (next : ℕ) → IsNodeOf code.thread next → Contains (successors is.action) next → is.action ≢ End →

@@ -1,21 +1,29 @@
 -- A hart at the code of a node that makes its thread's pending store.
+use Rattle.crash_simulation.proofs.Common.{Changes, Contents}
+use Rattle.crash_simulation.proofs.Common.{IsApart, IsElsewhere, Step, in_frame, log_stays}
+use Rattle.crash_simulation.proofs.Elements.{element_ends}
+use Rattle.crash_simulation.proofs.FrameWords.{all_named, all_words, frame_after}
+use Rattle.crash_simulation.proofs.MarkSteps.{frames_passed, passed_frame, stays_all}
+use Rattle.crash_simulation.proofs.NodeEnvironments.{frame_answered, frame_guarded, frame_read, read_cases, reads, reads_own, frame_loaded}
+use Rattle.crash_simulation.proofs.ThreadViews.{view_persists}
 use Rattle.crash_simulation.proofs.Common.{◌≡◌, ℕ, List, ◌∷◌, sym, ◌∙◌, ap, arith, subst, true, false, Option, Some, refl, ◌<◌, [], length, Bool, inl, inr}
 use Rattle.crash_simulation.proofs.Common.{slice_get, if◌then◌else◌, true≢false, ◌*◌, ◌%◌, ◌^◌, ℤ, slice_index_or, Contains, AllZip, option_map, ne_eqb}
-use Rattle.crash_simulation.proofs.Common.{true_from_ne_false, nat_tests, none-some, same_Some, slice_get-map, byte_number, variable_at, Word, bytes_of, typed}
-use Rattle.crash_simulation.proofs.Common.{register_form_of, Kind, Variable, Pending, Guards, element_lock, IsStoreInRange, AreNumbersOf, zip_at, World, Effect}
-use Rattle.crash_simulation.proofs.Common.{is_point_store, GraphThread, effect_of, NodeAt, lowered, Action, Store, Node, variables_apart, addresses_reach}
-use Rattle.crash_simulation.proofs.Common.{Writes, store_ahead, WritesAt, now, attempt_of, history_at, Memory, IsStored, IsOther, stores, begun, ConfigStep}
-use Rattle.crash_simulation.proofs.Common.{memory_in, since_stays, memory_stored, stored_is_since, HasCome, line_of, is_there, MarkedEnvironment, IsNext}
-use Rattle.crash_simulation.proofs.Common.{variables_are_apart, stores_to_variable, is_clean, kind_at, IsAnswered, source_of, MayDo, cleans_of, MarksPass}
-use Rattle.crash_simulation.proofs.Common.{same_or_other, AbstractRun, kept_of, now_of, attempts_of, MayStore, element, System, IsSystem, flat_of, shapes_of}
-use Rattle.crash_simulation.proofs.Common.{places_of, ThreadGhost, is_ahead, IsFlushed, IsComing}
-use Rattle.crash_simulation.proofs.Common.{is_fence, ◌+◌, ◌≤◌, ◌==◌, eqb-true, eq-eqb, cond-true, length-append, has_moved, last_position, word_at, Step}
-use Rattle.crash_simulation.proofs.Common.{History, positions_meet, IsOnItsWay, durable_there, comes_with, recorded_in}
+use Rattle.crash_simulation.proofs.Common.{true_from_ne_false, nat_tests, same_Some, slice_get-map, byte_number, variable_at, Word, bytes_of, typed}
+use Rattle.crash_simulation.proofs.Common.{register_form_of, Kind, Variable, Pending, Guards, element_lock, IsStoreInRange, AreNumbersOf, zip_at, World}
+use Rattle.crash_simulation.proofs.Common.{Effect, is_point_store, GraphThread, effect_of, NodeAt, lowered, Action, Store, Node, variables_apart}
+use Rattle.crash_simulation.proofs.Common.{addresses_reach, Writes, store_ahead, WritesAt, now, attempt_of, history_at, Memory, IsStored, IsOther, stores}
+use Rattle.crash_simulation.proofs.Common.{begun, ConfigStep, memory_in, since_stays, memory_stored, stored_is_since, HasCome, line_of, is_there}
+use Rattle.crash_simulation.proofs.Common.{MarkedEnvironment, IsNext, variables_are_apart, stores_to_variable, is_clean, kind_at, IsAnswered, source_of}
+use Rattle.crash_simulation.proofs.Common.{MayDo, cleans_of, MarksPass, same_or_other, AbstractRun, kept_of, now_of, attempts_of, MayStore, element, System}
+use Rattle.crash_simulation.proofs.Common.{IsSystem, flat_of, shapes_of, places_of, ThreadGhost, is_ahead, IsFlushed, IsComing, is_fence, ◌+◌, ◌≤◌, ◌==◌}
+use Rattle.crash_simulation.proofs.Common.{eqb-true, eq-eqb, cond-true, length-append, has_moved, last_position, word_at, History, positions_meet, IsOnItsWay}
+use Rattle.crash_simulation.proofs.Common.{durable_there, comes_with, recorded_in}
 use Rattle.machine_model.specs.Schedule.{completes}
 use Rattle.crash_simulation.specs.Accesses.{is_among, stores_to}
 use Rattle.crash_simulation.specs.StorePositions.{stores_into}
-use Rattle.crash_simulation.specs.ThreadGhosts.{IsElementAt}
-use Rattle.crash_simulation.proofs.Common.{◌⊎◌, IsReadAt, is_bound, stored_before_read}
+use Rattle.crash_simulation.specs.ThreadGhosts.{IsByteOf, IsElementAt}
+use Rattle.crash_simulation.proofs.ReadBytes.{AccessesWritten}
+use Rattle.crash_simulation.proofs.Common.{IsReadAt, stored_before_read}
 use Rattle.flow_graph.specs.Paths.{element as named}
 use Rattle.region_attempts.specs.PendingCleans.{Cleans}
 use Rattle.ido_base.specs.Words as words
@@ -24,7 +32,6 @@ use Rattle.flow_graph.specs.Actions as a
 use Rattle.crash_simulation.proofs.ConfigAfterBegin.{one_longer, attempted, done_longer, alone_ahead, wrote}
 use Rattle.crash_simulation.proofs.GraphAfterBegin.{matches_now, follows_on, not_come, boundary_after_is}
 use Rattle.crash_simulation.proofs.MarksAtNodes.{Doing, MarkIn, AtMark, Passes, environment, in_graph, at_some_mark}
-use Rattle.crash_simulation.proofs.LoadFreeEnvironment.{bare_answers, bare_just_read, bare_reads}
 use Rattle.crash_simulation.proofs.StatesMatchSource.{cuts, resumed, now_orderly, now_good}
 use Rattle.crash_simulation.proofs.Boundaries.{store_is}
 use Rattle.crash_simulation.proofs.Elements.{room, there_or_none, variables_end, element_below, word_of_element}
@@ -42,7 +49,7 @@ stored_low : (ws : List Word) (number count v w : ℕ) → v % 2 ^ (8 * count) �
     words.stored ws number count v ≡ words.stored ws number count w
 stored_low ws number count v w same = rw same refl
 
-same_tail : (x z : Effect) (xs zs : List Effect) → x ∷ xs ≡ z ∷ zs → zs ≡ xs
+pub same_tail : (x z : Effect) (xs zs : List Effect) → x ∷ xs ≡ z ∷ zs → zs ≡ xs
 same_tail x z xs zs e = cc
 
 clean_if : (b : Bool) (address : ℕ) (effect : Effect) → Contains (if b then r.Cleans address ∷ [] else []) effect → is_clean effect ≡ true
@@ -69,7 +76,7 @@ module _ {y : System} {s : IsSystem y} {w : World} {h : ℕ} (site : AtNode y s 
   does = grind (arith, nat_tests)
 
   abbrev doing : Doing site
-  doing = record { node = node; at = at; effect = e; free = refl; does = does; reads = λ address bytes. false }
+  doing = record { node = node; at = at; effect = e; free = refl; does = does; reads = reads site.hart [] }
 
   abbrev here : MarkedEnvironment
   here = environment site doing
@@ -90,12 +97,31 @@ module _ {y : System} {s : IsSystem y} {w : World} {h : ℕ} (site : AtNode y s 
   pub in_variables : address < variables_end
   in_variables = element_below (flat_of y).variables (room y s) store.variable store.element formed.it formed.found formed.element
 
-  may_do : MayDo y.plan code.thread places w.log (length w.harts) here e
-  may_do = grind (arith, element_access, none-some, room, formed, kind_is)
+  may_do : MayDo y.plan code.thread places w.log (length w.harts) here graph_thread.at e
+  may_do = (
+    k,
+    kind_is,
+    record {
+      access = element_access w.log (flat_of y).variables (length w.harts) store.variable store.element formed.it (room y s) formed.found formed.element;
+      apart = apart_here;
+    },
+  )
+    where
+      apart_here : IsApart here address (bytes_of k)
+      apart_here at count value e = elim (read_cases site.hart [] at count value e) [
+        | inl none ↦ absurd (true≢false (sym none))
+        | inr of_word ↦
+            let own = (frame_read w.log n at count of_word).0 in
+            let ends = element_ends (flat_of y).variables (room y s) store.variable store.element formed.it formed.found formed.element in
+            inr (omega (arith, ends, own.is, frame_after w.log n own.word))
+      ]
 
   pub mark : MarkIn site doing
-  mark = at_some_mark site doing (bare_reads y s w h site.hart.below)
-      (subst (λ (z : Action). IsAnswered (source_of y.plan code.thread seen) here.around.loads z) (sym makes.action) tt) may_do
+  mark = at_some_mark site doing (reads_own site.hart [])
+      (λ none. (
+        subst (λ (z : Action). IsAnswered (source_of y.plan code.thread seen) here.around.loads z) (sym makes.action) tt,
+        frame_answered site.hart [] site.core.view site.core.frame graph_thread.at,
+      )) may_do
 
   abbrev at_mark : AtMark site
   at_mark = record { doing = doing; mark = mark }
@@ -157,7 +183,10 @@ module _ {y : System} {s : IsSystem y} {w : World} {h : ℕ} (site : AtNode y s 
     no_point = grind (arith, ne_eqb, variables_are_apart, effect_is, in_variables)
 
     words_are : v.words ≡ words.stored w.words (byte_number address) (bytes_of k) (register_form_of (typed k store.number))
-    words_are = grind (arith, effect_is, kind_is, mark, stored_low)
+    words_are = ap (λ (z : World). z.words) p.forward.world
+        ∙ (ap (λ (x : Contents). x.words) (subst (λ (z : Effect). Changes (record { words = w.words; queue = mark.at.on.hart.queue }) z p.forward.contents)
+        effect_is p.forward.changes)
+        ∙ stored_low w.words (byte_number address) (bytes_of k) value (register_form_of (typed k store.number)) (p.made k kind_is).low)
 
     stored : IsStored b.config.memory memory store.variable store.element store.number
     stored =
@@ -177,6 +206,10 @@ module _ {y : System} {s : IsSystem y} {w : World} {h : ℕ} (site : AtNode y s 
       attempt = attempted b.config.attempts n _;
     })
 
+    elsewhere : IsElsewhere y.runs.program w all_words n n
+    elsewhere = stores_to_variable y.runs.program all_words w n n mark.at.on.hart address (bytes_of k) value
+        (subst (IsNext y.runs.program w n mark.at.on.hart) effect_is (is_next site at_mark p)) in_variables
+
     no_end : e ≡ a.Ends → cleans ≡ []
     no_end is = cc
 
@@ -189,8 +222,12 @@ module _ {y : System} {s : IsSystem y} {w : World} {h : ℕ} (site : AtNode y s 
       later = later_is;
       clean = clean_if (places.cleans graph_thread.at) address;
       ends = no_end;
-      elsewhere = stores_to_variable y.runs.program w n n mark.at.on.hart address (bytes_of k) value
-          (subst (IsNext y.runs.program w n mark.at.on.hart) effect_is (is_next site at_mark p)) in_variables;
+      sets_later = λ later. absurd later;
+      frame = view_persists w v n site.core.view (log_stays y.runs.program w (Step n) site.hart.stands.machine.sound) (stays_all site at_mark p elsewhere)
+          site.core.frame;
+      named = all_words;
+      among = all_named w.log c.new t.log.log.follows.new_is;
+      elsewhere = elsewhere;
       may = may;
       no_point = no_point;
       no_fence = ap is_fence effect_is;
@@ -317,6 +354,7 @@ module _ {y : System} {s : IsSystem y} {w : World} {h : ℕ} (site : AtNode y s 
                   comes_with u i (older u i (λ same equal. true≢false (sym (eq-eqb word_stored word
                   ((λ j. word_of_element y s ((sym same) j) ((sym equal) j)) ∙ at)) ∙ other)) f) at low
               | recorded_in among low ↦ passed_record site passed word position among low
+              | in_frame own framed at low ↦ passed_frame site passed own word position framed at low
             ]
 
     -- ---- What it has read
@@ -331,22 +369,21 @@ module _ {y : System} {s : IsSystem y} {w : World} {h : ℕ} (site : AtNode y s 
         ∙ ap (stores_to byte) effect_is
 
     -- what it stores now it accesses
-    accessed : (variable number place width byte : ℕ) → IsElementAt y variable number place width → place ≤ byte → byte < place + width →
-        variable ≡ store.variable → number ≡ store.element → completes (stores_to byte) y.runs.program w (Step n) n ≡ true
-    accessed variable number place width byte at from to same equal =
+    accessed : (variable number byte : ℕ) → IsByteOf y variable number byte → variable ≡ store.variable → number ≡ store.element →
+        completes (stores_to byte) y.runs.program w (Step n) n ≡ true
+    accessed variable number byte of same equal =
+        let at = of.at in
         let its : at.is ≡ formed.it = same_Some _ _ (sym at.there ∙ (ap (slice_get (flat_of y).variables) same ∙ formed.found)) in
-        let there : place ≡ address = at.address_is ∙ (λ i. variable_at (shapes_of y) (same i) (equal i)) in
-        let wide : width ≡ bytes_of k = at.bytes_are ∙ ap (λ (z : Variable). bytes_of z.kind) its in
-        completes_to byte ∙ is_among_by address (bytes_of k) byte (omega (arith, from, there)) (omega (arith, to, there, wide))
+        let there : of.address ≡ address = at.address_is ∙ (λ i. variable_at (shapes_of y) (same i) (equal i)) in
+        let wide : of.bytes ≡ bytes_of k = at.bytes_are ∙ ap (λ (z : Variable). bytes_of z.kind) its in
+        completes_to byte ∙ is_among_by address (bytes_of k) byte (omega (arith, of.from, there)) (omega (arith, of.to, there, wide))
 
-    stored_then : (variable number place width byte : ℕ) → is_bound new ≡ false → Writes b.config.kept n (attempt_of next.config n).done variable number →
-        IsElementAt y variable number place width → place ≤ byte → byte < place + width →
-        Writes b.config.kept n (attempt_of b.config n).done variable number ⊎ (completes (stores_to byte) y.runs.program w (Step n) n ≡ true)
-    stored_then variable number place width byte unbound writes at from to =
+    stored_then : AccessesWritten (passing.passage site passed)
+    stored_then variable number byte writes of =
         elim (wrote b.config.kept n (attempt_of b.config n).done variable number
         (subst (λ (j : ℕ). Writes b.config.kept n j variable number) (done_longer b.config n) writes)) [
           | inl old ↦ inl old
-          | inr at_once ↦ let same = written variable number at_once in inr (accessed variable number place width byte at from to same.0 same.1)
+          | inr at_once ↦ let same = written variable number at_once in inr (accessed variable number byte of same.0 same.1)
         ]
 
     -- what its attempt has read of that it had stored before
@@ -362,5 +399,6 @@ module _ {y : System} {s : IsSystem y} {w : World} {h : ℕ} (site : AtNode y s 
 
   pub store_step : MarksPass → StepOf site.hart n
   store_step marks = mark_step site at_mark marks
-      (λ p. passed_step site (passed p) (bare_answers y s w h site.hart.below (now (next p).config)) (flushed p) (last p)
-      (bare_just_read y s w h site.hart.below (next p) (new p)) (stored_then p))
+      (λ p. passed_step site (passed p) (frame_guarded site.hart (now (next p).config)) (flushed p) (last p)
+      (frame_loaded site.hart (next p) (new p)) (stored_then p)
+      (frames_passed site (passed p) (λ own framed. inl (stays_all site at_mark p (elsewhere p) own framed))))

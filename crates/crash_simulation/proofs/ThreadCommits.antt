@@ -1,25 +1,29 @@
 -- A thread's begun steps are kept: what that is to it and to the others, and that their invariants still hold.
-use Rattle.crash_simulation.proofs.Common.{◌≡◌, ◌≢◌, ℕ, List, ◌∷◌, sym, ◌∙◌, ap, arith, subst, true, false, Option, Some, refl, suc, ◌<◌, [], ◌++◌, zero}
-use Rattle.crash_simulation.proofs.Common.{replicate, slice_set, slice_get, true≢false, ◌≤◌, ⊎_elim, option_map, cases_Bool, get_or-set_other, State, Guards}
-use Rattle.crash_simulation.proofs.Common.{StateKeeps, held_by, IsSameTo, run_keeps, locks_same, unlocks_same, Hart, World, Phase, GraphThread, FlowState}
-use Rattle.crash_simulation.proofs.Common.{Matches, no_attempt, Attempt, IsAttempted, attempt_at, solo, WritesAt, IsInner, now, attempt_of, Invariant}
-use Rattle.crash_simulation.proofs.Common.{steps_begun, IsSettled, commits, settled_by, then, HasUnlocked, LastUnlocks, IsKeptBy, HasLocked, none_left}
-use Rattle.crash_simulation.proofs.Common.{same_other, inner_along, writes_at_same, none_of_other, others_left, rest_after, path, last_after, last_alone}
-use Rattle.crash_simulation.proofs.Common.{last_stays, unlocked_is_last, SettlesThere, flow_solo, node_after, GraphThreadsSettle, own_step, graph_follows}
-use Rattle.crash_simulation.proofs.Common.{step_lockstep, matched_after, inner_runs, graph_settles, Record, ExitPoint, Code, Describes, others_describe}
-use Rattle.crash_simulation.proofs.Common.{AbstractRun, kept_of, now_of, System, IsSystem, flat_of, ThreadGhost, on_fragment, InPhase, ThreadInv, IsBounded}
-use Rattle.crash_simulation.proofs.Common.{ExitInv, committed, InFragment, record_kept, Memory, memory_in, history_at, places_of, word_at, log_facts}
-use Rattle.crash_simulation.proofs.Common.{config_of, durable_there, comes_with, recorded_in}
+use Rattle.crash_simulation.specs.ThreadGhosts.{IsLoaded, IsLoadedFirst, StandsAtNoStore, in_own_frame, just_read, loaded_ahead, own_word, read_ahead}
+use Rattle.crash_simulation.specs.ThreadGhosts.{read_first}
+use Rattle.crash_simulation.proofs.Common.{Bool, None, inl, ⊎_elim, ◌≡◌, ◌≢◌, ℕ, List, ◌∷◌, sym, ◌∙◌, ap, arith, subst, true, false, Option, Some, refl, suc}
+use Rattle.crash_simulation.proofs.Common.{◌<◌, [], ◌++◌, zero, replicate, slice_set, slice_get, true≢false, ◌≤◌, option_map, cases_Bool, get_or-set_other}
+use Rattle.crash_simulation.proofs.Common.{State, Guards, StateKeeps, held_by, IsSameTo, run_keeps, locks_same, unlocks_same, Hart, World, Phase, GraphThread}
+use Rattle.crash_simulation.proofs.Common.{FlowState, Matches, no_attempt, Attempt, IsAttempted, attempt_at, solo, WritesAt, IsInner, now, attempt_of}
+use Rattle.crash_simulation.proofs.Common.{Invariant, steps_begun, IsSettled, commits, settled_by, then, HasUnlocked, LastUnlocks, IsKeptBy, HasLocked}
+use Rattle.crash_simulation.proofs.Common.{none_left, same_other, inner_along, writes_at_same, none_of_other, others_left, rest_after, path, last_after}
+use Rattle.crash_simulation.proofs.Common.{last_alone, last_stays, unlocked_is_last, SettlesThere, flow_solo, node_after, GraphThreadsSettle, own_step}
+use Rattle.crash_simulation.proofs.Common.{graph_follows, step_lockstep, matched_after, inner_runs, graph_settles, Record, ExitPoint, Code, Describes}
+use Rattle.crash_simulation.proofs.Common.{others_describe, AbstractRun, kept_of, now_of, System, IsSystem, flat_of, ThreadGhost, on_fragment, InPhase}
+use Rattle.crash_simulation.proofs.Common.{ThreadInv, IsBounded, ExitInv, committed, InFragment, record_kept, Memory, memory_in, history_at, places_of}
+use Rattle.crash_simulation.proofs.Common.{word_at, log_facts, config_of, durable_there, comes_with, recorded_in}
 use Rattle.crash_simulation.proofs.LogWords.{committed_settled}
+use Rattle.crash_simulation.proofs.Common.{AnswersGuarded, AssignsAlike, ExitOwes, IsFrameFlushed, IsOnFragment, on_machine, seen_by, Keeps, IsOnItsWay}
+use Rattle.crash_simulation.proofs.Common.{Thread, frame_ahead, frame_reached, in_frame}
 use Rattle.source_machine.proofs.Public.{solo as solo_law}
+use Rattle.crash_simulation.proofs.AssignmentsAlike.{alike_back, assigns_alike}
+use Rattle.crash_simulation.proofs.StatesMatchSource.{kept_good, now_good}
 use Rattle.crash_simulation.proofs.Elements.{word_durable}
 use Rattle.crash_simulation.proofs.StatesMatchSource.{resumed, kept_matches, as_source}
 use Rattle.crash_simulation.proofs.PendingReleases.{IsAtBoundary, at_keeps, at_took, at_gives, under_way, bounded_of}
 use Rattle.crash_simulation.proofs.KeptThreads.{moves_nowhere, IsKept, IsLeftAlone, stands_kept}
-use Rattle.crash_simulation.proofs.Common.{AnswersJustRead, Element, HasRead, IsReadAt, MarkedEnvironment, and_parts, element_lock, held_same, is_bound}
+use Rattle.crash_simulation.proofs.Common.{AnswersLoaded, Element, HasRead, IsReadAt, MarkedEnvironment, and_parts, element_lock, held_same, is_bound}
 use Rattle.crash_simulation.proofs.Common.{is_store, list_any, not, ◌&&◌}
-use Rattle.crash_simulation.specs.Accesses.{load}
-use Rattle.crash_simulation.proofs.ReadBytes.{none_read}
 use Rattle.crash_simulation.proofs.ThreadViews.{none_stored}
 
 -- ---- Attempts
@@ -60,6 +64,9 @@ module _ (y : System) (s : IsSystem y) (b : AbstractRun y) where
       subst (λ (k : ℕ). IsSameTo x (now old) (solo old.kept u k) u) none (solo_law x old.kept old.uncommitted u i.keeps i.runs i.hands).same in
       others_describe y.plan code (now_of y b) (kept_of y b) r describes (sym graph_thread)
       (ap (held_by u) (as_source y s b).kept_matches.holders ∙ (sym same.held ∙ ap (held_by u) (sym (as_source y s b).now_matches.holders)))
+      (alike_back y.plan code.thread (now_of y b) (kept_of y b) graph_thread
+      (assigns_alike y.plan s.plan code.thread (now_of y b) (kept_of y b) (now old) old.kept (as_source y s b).now_matches
+      (as_source y s b).kept_matches (now_good y s b) (run_keeps x old.kept old.uncommitted i.keeps) same graph_thread))
 
   -- ---- Thread t's are kept
 
@@ -96,6 +103,18 @@ module _ (y : System) (s : IsSystem y) (b : AbstractRun y) where
     pub own_done : (attempt_of committed_run.config t).done ≡ 0
     own_done = ap (λ (a : Attempt). a.done) may.settled.attempt.own
 
+    -- and a logged assignment at which it stands does the same
+    own_alike : (u : Thread) → u.number ≡ t → AssignsAlike y.plan u (now_of y b) (kept_of y committed_run)
+    own_alike u number =
+        let i = invariant in
+        let threads = subst (λ (k : ℕ). slice_get (kept_of y committed_run).graph_threads k ≡ slice_get (now_of y b).graph_threads k) (sym number)
+        graph_threads.own in
+        alike_back y.plan u (now_of y b) (kept_of y committed_run) (sym threads)
+        (assigns_alike y.plan s.plan u (now_of y b) (kept_of y committed_run) (now old) committed_run.config.kept
+        (as_source y s b).now_matches (kept_matches y s committed_run) (now_good y s b) (run_keeps x old.kept old.uncommitted i.keeps)
+        (subst (IsSameTo x (now old) committed_run.config.kept) (sym number) (solo_law x old.kept old.uncommitted t i.keeps i.runs i.hands).same)
+        (sym threads))
+
     -- a record that describes the state now describes what is kept then
     pub own_describes : (code : Code y.plan) (r : Record) → code.thread.number ≡ t → Describes y.plan code (now_of y b) r →
         Describes y.plan code (kept_of y committed_run) r
@@ -107,6 +126,7 @@ module _ (y : System) (s : IsSystem y) (b : AbstractRun y) where
         others_describe y.plan code (now_of y b) (kept_of y committed_run) r describes
         (subst (λ (k : ℕ). slice_get (kept_of y committed_run).graph_threads k ≡ slice_get (now_of y b).graph_threads k) (sym number) graph_threads.own)
         (subst (λ (k : ℕ). held_by k (kept_of y committed_run).holders ≡ held_by k (now_of y b).holders) (sym number) held)
+        (own_alike code.thread number)
 
     -- the unlock that ends its attempt is its last step that is kept then
     pub unlock_kept : (mutex : ℕ) → HasUnlocked old t mutex → LastUnlocks b.origin.source committed_run.schedule t mutex
@@ -201,6 +221,14 @@ module _ (y : System) (s : IsSystem y) (b : AbstractRun y) where
             (sym (same_other x old t invariant u apart).held) r.kept_guards;
       }
 
+      others_alike : (v : Thread) → v.number ≡ u → AssignsAlike y.plan v (kept_of y b) (kept_of y committed_run)
+      others_alike v number =
+          let threads = subst (λ (k : ℕ). slice_get (kept_of y committed_run).graph_threads k ≡ slice_get (kept_of y b).graph_threads k) (sym number)
+          graph_thread_same in
+          assigns_alike y.plan s.plan v (kept_of y committed_run) (kept_of y b) committed_run.config.kept old.kept (kept_matches y s committed_run)
+          (kept_matches y s b) (kept_good y s committed_run) keeps'
+          (subst (IsSameTo x committed_run.config.kept old.kept) (sym number) (same_other x old t invariant u apart)) threads
+
       -- another thread's record goes on to describe the kept state
       pub describes_on : (code : Code y.plan) (r : Record) → code.thread.number ≡ u → Describes y.plan code (kept_of y b) r →
           Describes y.plan code (kept_of y committed_run) r
@@ -211,6 +239,7 @@ module _ (y : System) (s : IsSystem y) (b : AbstractRun y) where
           others_describe y.plan code (kept_of y b) (kept_of y committed_run) r describes
           (subst (λ (k : ℕ). slice_get (kept_of y committed_run).graph_threads k ≡ slice_get (kept_of y b).graph_threads k) (sym number) graph_thread_same)
           (subst (λ (k : ℕ). held_by k (kept_of y committed_run).holders ≡ held_by k (kept_of y b).holders) (sym number) held)
+          (others_alike code.thread number)
 
 -- ---- Invariants where steps are kept
 
@@ -233,35 +262,85 @@ module _ (y : System) (w : World) (b next : AbstractRun y) (code : Code y.plan) 
   open code.thread use {number as n}
 
   fragment_stays : (hart : Hart) (graph_thread : GraphThread) (exit : ExitPoint) (steps : ℕ) (o : InFragment y w b code c hart graph_thread exit steps) →
-      AnswersJustRead y next n (taken c) o.environment → ExitInv y next.config n (taken c) graph_thread exit →
+      AnswersLoaded y next n (taken c) o.environment → ExitInv y next.config n (taken c) graph_thread exit →
       InFragment y w next code (taken c) hart graph_thread exit steps
-  fragment_stays hart graph_thread exit steps o just h5 = grind arith
+  fragment_stays hart graph_thread exit steps o loaded fits = record {
+    environment = o.environment;
+    answers = subst (λ (z : State). AnswersGuarded y z n o.environment) (sym up.sources) o.answers;
+    loaded = loaded;
+    view = o.view;
+    at_side = o.at_side;
+    frame = o.frame;
+    fragment = subst (λ (z : FlowState). IsOnFragment y.plan code.thread code.is.places (on_machine y.runs.program w n o.environment)
+        (record { exit = exit; node = graph_thread.at; seen = seen_by z graph_thread; view = o.view }) steps (c.cleans ++ c.rest)) (sym up.states) o.fragment;
+    fits = fits;
+    owes = subst (λ (z : FlowState). ExitOwes y code (taken c) graph_thread.at (seen_by z graph_thread) exit) (sym up.states) (owes_taken exit o.owes);
+    soon = o.soon;
+  }
+    where
+      owes_taken : (to : ExitPoint) → ExitOwes y code c graph_thread.at (seen_by (now_of y b) graph_thread) to →
+          ExitOwes y code (taken c) graph_thread.at (seen_by (now_of y b) graph_thread) to
+      owes_taken (Keeps owed) owes = record { number = owes.number; beside = owes.beside }
+      owes_taken to owes = tt
+
+  stands_there : StandsAtNoStore y b n → StandsAtNoStore y next n
+  stands_there there = record {
+    graph_thread = there.graph_thread;
+    found = ap (λ (z : FlowState). slice_get z.graph_threads n) up.states ∙ there.found;
+    no_store = there.no_store;
+  }
 
   -- while a boundary is under way nothing has just been read
-  none_just_read : (z : MarkedEnvironment) → c.committed ≡ false → AnswersJustRead y b n c z → AnswersJustRead y next n (taken c) z
-  none_just_read z not_yet just address bytes value e = absurd (true≢false (sym (just address bytes value e).goes.committed ∙ not_yet))
+  loaded_taken : (z : MarkedEnvironment) → c.committed ≡ false → AnswersLoaded y b n c z → AnswersLoaded y next n (taken c) z
+  loaded_taken z not_yet loaded address bytes value e = by (loaded address bytes value e)
+    where
+      by : IsLoaded y b n c address bytes → IsLoaded y next n (taken c) address bytes
+      by (just_read j) = absurd (true≢false (sym j.goes.committed ∙ not_yet))
+      by (own_word own eight) = own_word own eight
+      by (read_ahead variable number at framed there) = read_ahead variable number at framed (stands_there there)
 
-  bounded : {Before After : Type 0} (graph_thread : GraphThread) (giving : Option ℕ) → IsBounded y b.config n c graph_thread giving Before →
-      IsBounded y next.config n (taken c) graph_thread giving After
-  bounded graph_thread giving h2 = grind (arith, true≢false)
+  bounded : {Before After : Type 0} (graph_thread : GraphThread) (giving : Option ℕ) (write_comes : Bool) →
+      IsBounded y b.config n c graph_thread giving write_comes Before → IsBounded y next.config n (taken c) graph_thread giving write_comes After
+  bounded graph_thread giving write_comes f = record {
+    execution = f.execution;
+    cleans = f.cleans;
+    gives = f.gives;
+    written = f.written;
+    before = λ un. absurd (true≢false un);
+    after = λ over. up.begun;
+  }
 
   own_fits : (graph_thread : GraphThread) (exit : ExitPoint) → IsAtBoundary exit → ExitInv y b.config n c graph_thread exit →
       ExitInv y next.config n (taken c) graph_thread exit
-  own_fits graph_thread exit h2 h3 = grind (arith, at_gives, at_keeps, at_took, bounded)
+  own_fits graph_thread _ (at_keeps owed) f = (f.0, up.begun ∙ sym up.done, bounded graph_thread None true f.2)
+  own_fits graph_thread _ (at_took from) f = bounded graph_thread None false f
+  own_fits graph_thread _ (at_gives from mutex) f = bounded graph_thread (Some mutex) false f
 
-  -- what it has stored last is durable
+  -- its frame is on its way still
+  frame_taken : (hart : Hart) (word : ℕ) → IsFrameFlushed y w b code c hart word → IsFrameFlushed y w next code (taken c) hart word
+  frame_taken hart word f = record {
+    comes = elim f.comes [
+      | frame_reached r ↦ frame_reached r
+      | frame_ahead other has line ↦ frame_ahead other has line
+    ];
+    fenced = λ un. absurd (true≢false un);
+  }
+
+  -- what it has stored last is durable, or in its frame
   last_durable : IsSystem y → memory_in (places_of y) w.words ≡ b.config.memory → (t : ThreadInv y w b code c) → c.committed ≡ false →
-      committed w n c t.log.hart ≡ true → (word position : ℕ) → c.last_stores word ≡ Some position → position ≤ (word_at w.words word).durable
+      committed w n c t.log.hart ≡ true → (word position : ℕ) → c.last_stores word ≡ Some position →
+      IsOnItsWay y w next code (taken c) t.log.hart word position
   last_durable s memory t not_yet sooner word position is = elim (t.stored.last word position is) [
-    | durable_there low ↦ low
+    | durable_there low ↦ durable_there low
     | comes_with v e f at low ↦
         let fenced = f.fenced not_yet (log_facts.bank_before_point.fenced w.log n c.old c.new (config_of w t.log.hart c.rest) t.log.log sooner) in
         let durable =
         word_durable y s w.words v e f.position (subst (λ (m : Memory). f.position ≤ (history_at m v e).durable) (sym memory) fenced) in
-        subst (λ (k : ℕ). position ≤ (word_at w.words k).durable) at (omega (arith, low, durable))
+        durable_there (subst (λ (k : ℕ). position ≤ (word_at w.words k).durable) at (omega (arith, low, durable)))
     | recorded_in among low ↦
         let settled = committed_settled w.log n c.old c.new (config_of w t.log.hart c.rest) t.log.log sooner word among in
-        omega (arith, low, settled)
+        durable_there (omega (arith, low, settled))
+    | in_frame own framed at low ↦ in_frame own framed at low
   ]
 
   -- its steps are bound
@@ -270,8 +349,23 @@ module _ (y : System) (w : World) (b next : AbstractRun y) (code : Code y.plan) 
       let stored = (and_parts (not (list_any is_store c.rest)) _ sooner).0 in
       λ i. not (not_yet i) && stored i
 
-  none_first : (hart : Hart) → c.committed ≡ false → committed w n c hart ≡ true → HasRead y b n c → (byte : ℕ) → c.first_accesses byte ≢ Some load
-  none_first hart not_yet sooner reads byte is = true≢false (sym (bound hart not_yet sooner) ∙ (reads.read byte is).unbound)
+  -- bound steps have read nothing since the point was stored
+  read_taken : (hart : Hart) → c.committed ≡ false → committed w n c hart ≡ true → HasRead y b n c → HasRead y next n (taken c)
+  read_taken hart not_yet sooner reads = record {
+    read = λ byte is. by (reads.read byte is);
+    written = λ unbound variable number byte writes of. absurd (omega (arith, writes.within, up.done));
+  }
+    where
+      by : {byte : ℕ} → IsLoadedFirst y b n c byte → IsLoadedFirst y next n (taken c) byte
+      by (read_first r) = absurd (true≢false (sym (bound hart not_yet sooner) ∙ r.unbound))
+      by (in_own_frame own) = in_own_frame own
+      by (loaded_ahead r) = loaded_ahead (record {
+        framed = r.framed;
+        variable = r.variable;
+        number = r.number;
+        of = r.of;
+        since = ⊎_elim (λ there. inl (stands_there there)) (λ gone. absurd (true≢false (sym (bound hart not_yet sooner) ∙ gone.0))) r.since;
+      })
 
   pub own_stands : IsSystem y → memory_in (places_of y) w.words ≡ b.config.memory → (t : ThreadInv y w b code c) → c.committed ≡ false →
       committed w n c t.log.hart ≡ true → ThreadInv y w next code (taken c)
@@ -289,9 +383,10 @@ module _ (y : System) (w : World) (b next : AbstractRun y) (code : Code y.plan) 
         walks = ap (λ (z : FlowState). slice_get z.graph_threads n) up.states ∙ t.walks;
         phase = subst (λ (p : Phase). InPhase y w next code (taken c) t.log.hart t.graph_thread p) (sym u.runs)
             (on_fragment u.to u.steps (fragment_stays t.log.hart t.graph_thread u.to u.steps u.on
-            (none_just_read u.on.environment not_yet u.on.just_read) (own_fits t.graph_thread u.to u.exit u.on.fits)));
-        stored = none_stored y w next code (taken c) t.log.hart up.done t.stored.cleans (last_durable s memory t not_yet sooner);
-        has_read = none_read y next n (taken c) up.done (none_first t.log.hart not_yet sooner t.has_read);
+            (loaded_taken u.on.environment not_yet u.on.loaded) (own_fits t.graph_thread u.to u.exit u.on.fits)));
+        stored = none_stored y w next code (taken c) t.log.hart up.done t.stored.cleans (last_durable s memory t not_yet sooner)
+            (λ sectioned word framed. frame_taken t.log.hart word (t.stored.frame sectioned word framed));
+        has_read = read_taken t.log.hart not_yet sooner t.has_read;
       }
 
 -- ---- Another thread
@@ -303,7 +398,7 @@ left_as_it_is y w b code c = record {
   here = λ hart there. there;
   moves = λ hart there. moves_nowhere w w code.thread.number hart hart c.rest refl refl;
   fragments = λ z answers stage steps o. o;
-  cores = λ at seen side registers o. o;
+  cores = λ at seen view owed registers o. o;
   reach = λ queue j position r. r;
   longer = λ j position low. low;
 }
@@ -329,10 +424,13 @@ module _ (y : System) (s : IsSystem y) (b : AbstractRun y) (k : ℕ) (may : MayS
       cleans = λ none. none;
       giving = refl;
       committed = refl;
+      record_is = refl;
+      old_is = refl;
     };
     guards = λ v e g. subst (λ (z : State). Guards (flat_of y) z u v e) (sym (source_same y s b k may)) g;
     graph_thread = ap (λ (z : FlowState). slice_get z.graph_threads u) (now_same y s b k may);
     holds = ap (λ (z : FlowState). held_by u z.holders) (now_same y s b k may);
+    alike = subst (λ (z : FlowState). AssignsAlike y.plan code.thread (now_of y b) z) (sym (now_same y s b k may)) (λ graph_thread is found at logged. refl);
     describes = λ d. describes_on y s b k may u apart code (record_kept c) refl d;
     last = λ mutex l. unlock_stays y s b k may u apart mutex l;
     nodes = λ j within. node_same y s b k may u apart j (longest_within j within);

@@ -1,20 +1,35 @@
 -- A hart at the code of a node that gives a mutex back: it passes its mark, and the boundary before the call begins.
-use Rattle.crash_simulation.proofs.Common.{◌≡◌, ℕ, List, ◌∷◌, sym, ◌∙◌, ap, arith, subst, true, false, Option, Some, refl, suc, ◌+◌, ◌<◌, [], ◌++◌, length}
-use Rattle.crash_simulation.proofs.Common.{Bool, inr, slice_get, ◌&&◌, if◌then◌else◌, not, true≢false, ◌≤◌, ◌*◌, list_any, nat_tests, none-some, same_Some}
-use Rattle.crash_simulation.proofs.Common.{slice_get_within, PersistsThrough, log_of, Reply, LockName, lock_number, unlocks, unlocks_held, Hart, World, Effect}
-use Rattle.crash_simulation.proofs.Common.{Cleans, Fences, has_moved, is_point_store, Phase, Seen, GraphThread, FlowState, seen_by, effect_of, NodeAt, lowered}
-use Rattle.crash_simulation.proofs.Common.{Action, Node, Unlock, Boundary, boundary_effects, side_after, now, history_at, Memory, begun, ConfigStep}
-use Rattle.crash_simulation.proofs.Common.{synchronises, Synchronises, HasUnlocked, memory_in, counted_own, MarkedEnvironment, recorded_by, LogInv, Record}
-use Rattle.crash_simulation.proofs.Common.{config_of, IsNext, MovesTo, IsLogEffect, StoresWord, CleansLine, PassesFence, is_boundary_effect, is_store}
-use Rattle.crash_simulation.proofs.Common.{fences_ahead, stores_nothing, point_store_is_last, boundaries_stay_in, not_done, own_steps_move, side_follows}
-use Rattle.crash_simulation.proofs.Common.{boundaries_fence, steps_keep, fences_settle, keeping, Enters, IsAnswered, source_of, Gives, MarksPass, run_at}
-use Rattle.crash_simulation.proofs.Common.{fragments_see_all, past_unlock, unlocks_enter, AbstractRun, now_of, is_bound, nothing_released, MayStore, nothing}
-use Rattle.crash_simulation.proofs.Common.{goes, abstract_next, begins_step, begins_unlock, most_ahead, System, IsSystem, flat_of, places_of, ThreadGhost}
-use Rattle.crash_simulation.proofs.Common.{on_fragment, InPhase, ThreadInv, IsFlushed}
-use Rattle.crash_simulation.proofs.Common.{is_fence, boundary_fences, AreFencesCounted, boundary_stores}
-use Rattle.crash_simulation.proofs.Common.{◌⊎◌, inl, ⊎_elim, last_position, word_at, Log, log_stays, Step}
-use Rattle.crash_simulation.proofs.Common.{first_access_after, last_store_after, stores_point, IsWordOf, durable_there}
-use Rattle.crash_simulation.proofs.ReadBytes.{passed_answers, reads_after}
+use Rattle.crash_simulation.proofs.Common.{counted_own}
+use Rattle.crash_simulation.proofs.OwnHartSteps.{told_at, told_new}
+use Rattle.crash_simulation.proofs.Common.{recorded_in, ◌||◌, ◌++◌, ◌≢◌, ap₂, pos, Cleans, Contains, FrameIsComing, IsFrameFlushed, IsFrameWord, IsReady}
+use Rattle.crash_simulation.proofs.Common.{IsSectioned, Log, LogView, contains_none, frame_at, frame_in, frame_word, last_position, of_unlock, steps_move}
+use Rattle.crash_simulation.proofs.Common.{the_entry, view_after, words_in}
+use Rattle.ido_base.specs.Growth.{IsPersisted}
+use Rattle.ido_base.proofs.Public.{same_last}
+use Rattle.crash_simulation.proofs.FrameFlushes.{frame_still}
+use Rattle.crash_simulation.proofs.FrameWords.{all_words}
+use Rattle.crash_simulation.proofs.LastReleases.{holds_some}
+use Rattle.crash_simulation.proofs.MarkSteps.{stays_all}
+use Rattle.crash_simulation.proofs.NodeEnvironments.{frame_answered, frame_guarded, reads, reads_own, frame_loaded}
+use Rattle.crash_simulation.proofs.PendingFlushes.{frames_stay}
+use Rattle.crash_simulation.proofs.PointsInSections.{held_in_kept, point_where}
+use Rattle.crash_simulation.proofs.BeginningFrames.{frame_comes, frame_queued}
+use Rattle.crash_simulation.proofs.ThreadViews.{frame_stays, view_persists}
+use Rattle.crash_simulation.proofs.CompletedEffects.{step_last}
+use Rattle.crash_simulation.proofs.Common.{◌≡◌, ℕ, List, ◌∷◌, sym, ◌∙◌, ap, arith, subst, true, false, Option, Some, refl, suc, ◌+◌, ◌<◌, [], length, Bool}
+use Rattle.crash_simulation.proofs.Common.{inr, slice_get, ◌&&◌, if◌then◌else◌, not, true≢false, ◌≤◌, ◌*◌, list_any, none-some, same_Some, slice_get_within}
+use Rattle.crash_simulation.proofs.Common.{PersistsThrough, log_of, Reply, LockName, lock_number, unlocks, unlocks_held, Hart, World, Effect, Fences}
+use Rattle.crash_simulation.proofs.Common.{has_moved, is_point_store, Phase, Seen, GraphThread, FlowState, seen_by, effect_of, NodeAt, lowered, Action, Node}
+use Rattle.crash_simulation.proofs.Common.{Unlock, Boundary, boundary_effects, now, history_at, Memory, begun, ConfigStep, synchronises, Synchronises}
+use Rattle.crash_simulation.proofs.Common.{HasUnlocked, memory_in, MarkedEnvironment, recorded_by, LogInv, Record, config_of, IsNext, MovesTo, IsLogEffect}
+use Rattle.crash_simulation.proofs.Common.{StoresWord, CleansLine, PassesFence, is_boundary_effect, is_store, fences_ahead, stores_nothing}
+use Rattle.crash_simulation.proofs.Common.{point_store_is_last, boundaries_stay_in, not_done, own_steps_move, side_follows, boundaries_fence, fences_settle}
+use Rattle.crash_simulation.proofs.Common.{keeping, Enters, IsAnswered, source_of, Gives, MarksPass, run_at, fragments_see_all, unlocks_enter, AbstractRun}
+use Rattle.crash_simulation.proofs.Common.{now_of, is_bound, nothing_released, MayStore, nothing, goes, abstract_next, begins_step, begins_unlock, most_ahead}
+use Rattle.crash_simulation.proofs.Common.{System, IsSystem, flat_of, places_of, ThreadGhost, on_fragment, InPhase, ThreadInv, IsFlushed, is_fence}
+use Rattle.crash_simulation.proofs.Common.{boundary_fences, AreFencesCounted, boundary_stores, ◌⊎◌, inl, ⊎_elim, word_at, log_stays, Step, first_access_after}
+use Rattle.crash_simulation.proofs.Common.{last_store_after, stores_point, IsWordOf, durable_there}
+use Rattle.crash_simulation.proofs.ReadBytes.{none_bound, passed_answers, reads_after}
 use Rattle.log_states.proofs.Public.{ends}
 use Rattle.flow_graph.proofs.Public.{moved}
 use Rattle.flow_graph.specs.Actions as a
@@ -25,7 +40,6 @@ use Rattle.crash_simulation.proofs.ThreadViews.{begins_with, describes_over, log
 use Rattle.crash_simulation.proofs.MarksAtNodes.{Doing, MarkIn, AtMark, Passes, environment, stage_then, in_graph, at_plan, graph_step_is, at_some_mark}
 use Rattle.crash_simulation.proofs.MarksAtNodes.{old_hart, passed_soon}
 use Rattle.crash_simulation.proofs.MarkSteps.{is_next, may_each, holders_stay, reaches_on}
-use Rattle.crash_simulation.proofs.LoadFreeEnvironment.{bare_answers, bare_just_read, bare_reads}
 use Rattle.crash_simulation.proofs.LastReleases.{holders_stay_none, none_leaving}
 use Rattle.crash_simulation.proofs.Boundaries.{after_unlock_in, BoundaryIsRecoverable, boundaries_begin}
 use Rattle.crash_simulation.proofs.LocksAfterStep.{GoneOn, held_unlocked}
@@ -61,14 +75,17 @@ module _ {y : System} {s : IsSystem y} {w : World} {h : ℕ} (site : AtNode y s 
   does = ap (λ (z : Action). effect_of z seen) action
 
   abbrev doing : Doing site
-  doing = record { node = node; at = at; effect = e; free = refl; does = does; reads = λ address bytes. false }
+  doing = record { node = node; at = at; effect = e; free = refl; does = does; reads = reads site.hart [] }
 
   abbrev here : MarkedEnvironment
   here = environment site doing
 
   pub mark : MarkIn site doing
-  mark = at_some_mark site doing (bare_reads y s w h site.hart.below)
-      (subst (λ (z : Action). IsAnswered (source_of y.plan code.thread seen) here.around.loads z) (sym action) tt) tt
+  mark = at_some_mark site doing (reads_own site.hart [])
+      (λ none. (
+        subst (λ (z : Action). IsAnswered (source_of y.plan code.thread seen) here.around.loads z) (sym action) tt,
+        frame_answered site.hart [] site.core.view site.core.frame graph_thread.at,
+      )) tt
 
   abbrev at_mark : AtMark site
   at_mark = record { doing = doing; mark = mark }
@@ -78,7 +95,7 @@ module _ {y : System} {s : IsSystem y} {w : World} {h : ℕ} (site : AtNode y s 
   unlocks_now : unlocks (now b.config) n ≡ Some mutex
   unlocks_now = unlocks_it (in_graph site doing) name next_node action
 
-  passing : Synchronises b.config n
+  pub passing : Synchronises b.config n
   passing =
       let stepped = source_steps (in_graph site doing) _ (graph_step_is site doing) in
       record {
@@ -122,41 +139,56 @@ module _ {y : System} {s : IsSystem y} {w : World} {h : ℕ} (site : AtNode y s 
   -- ---- The boundary
 
   abbrev boundary : Boundary
-  boundary = keeping y.plan code.thread places graph_thread.locals next_node
+  boundary = keeping y.plan code.thread places false graph_thread.locals next_node
 
   abbrev resume : ℕ
   resume = places.after graph_thread.at
 
   abbrev effects_all : List Effect
-  effects_all = boundary_effects boundary site.core.side resume site.core.registers
+  effects_all = boundary_effects boundary site.core.view.side resume site.core.registers
 
-  abbrev new_record : Record
-  new_record = recorded_by boundary site.core.side resume site.core.registers
+  abbrev frame : ℕ → ℕ
+  frame = words_in y.plan.log n site.core.view
 
-  enters_next : Enters y.plan code.thread next_node (seen_by (now_of y next) graph_thread_next) site.core.side site.core.registers
+  enters_next : Enters y.plan code.thread next_node (seen_by (now_of y next) graph_thread_next) site.core.view site.core.registers
   enters_next =
       let seen_same : seen ≡ seen_by (now_of y next) graph_thread_next = ap (λ (z : FlowState). seen_by z graph_thread_next) (sym state) in
-      unlocks_enter y.plan code (now_of y next) graph_thread_next graph_thread.at name site.core.side node site.core.registers s.plan
-      (now_orderly y s next)
-      walks_next (at_plan site doing) action
-      (subst (λ (z : Seen). Enters y.plan code.thread graph_thread.at z site.core.side site.core.registers) seen_same site.core.core.enters)
+      unlocks_enter y.plan code (now_of y next) graph_thread_next graph_thread.at name site.core.view site.core.owed node site.core.registers s.plan
+      (now_orderly y s next) walks_next (at_plan site doing) action
+      (subst (λ (z : Seen). IsReady y.plan code.thread graph_thread.at z site.core.view site.core.owed site.core.registers) seen_same site.core.core.ready)
 
-  begins : BoundaryIsRecoverable y.plan code (now_of y next) graph_thread.locals next_node site.core.side resume site.core.registers
+  pub begins : BoundaryIsRecoverable y.plan code (now_of y next) boundary next_node the_entry site.core.view resume site.core.registers
   begins = boundaries_begin code s.plan (now_orderly y s next) (now_good y s next) (record {
     graph_thread = graph_thread_next;
     there = walks_next;
     goes_on = site.core.goes.execution;
     own = mark.at.own;
-    resumes = λ holds. past_unlock graph_thread.at name node site.core.core.own (at_plan site doing) action holds;
-    enters = enters_next;
+    place = the_entry;
+    boundary = of_unlock graph_thread.at name node site.core.core.own (at_plan site doing) action;
+    owed = pos 0;
+    may = enters_next;
     address = after_unlock_in y s h site.hart.below graph_thread.at graph_thread.locals mutex next_node
         (record { own = site.core.core.own; is = node; at = at_plan site doing; lock = name; unlocks = action; number = refl });
   })
 
+  abbrev new_record : Record
+  new_record = recorded_by boundary begins.framed frame site.core.view.side resume site.core.registers
+
+  -- the thread holds a mutex, so that its record has a point
+  in_section : c.new.point ≢ 0
+  in_section = point_where (describes_over y b code c t.records site.core.goes.goes.committed)
+      (held_in_kept y s b code site.core.goes.goes.going (holds_some n (now_of y b).holders mutex owned))
+
+  none_ahead : c.cleans ++ c.rest ≡ []
+  none_ahead = ap₂ ◌++◌ site.core.goes.cleans site.core.goes.goes.rest
+
+  comes : FrameIsComing boundary begins.framed frame w.words t.log.hart.queue
+  comes = frame_comes site.hart boundary refl refl begins.framed site.core.view site.core.frame begins.exist none_ahead (λ locked. inr in_section)
+
   pub log_first : LogInv n c.new new_record w effects_all
   log_first =
-      log_begins site.hart graph_thread.locals next_node site.core.side resume site.core.registers site.core.goes.goes.rest site.core.core.enters.at_side
-      site.core.at_side begins.recoverable
+      log_begins site.hart boundary refl refl begins.framed frame site.core.view.side resume site.core.registers site.core.goes.goes.rest enters_next.at_side
+      site.core.at_side begins.recoverable comes
 
   -- ---- The mark is passed
 
@@ -173,6 +205,7 @@ module _ {y : System} {s : IsSystem y} {w : World} {h : ℕ} (site : AtNode y s 
     -- what the first instruction is to the boundary
     record IsFirst : Type 0 where
       log : LogInv n c.new new_record v p.later
+      persists : (own : ℕ) → IsFrameWord w.log own → IsPersisted (frame_in w.log w.words n own) (frame_in w.log v.words n own)
       may : MayStore y b n p.forward.effect
       memory : memory_in (places_of y) v.words ≡ memory_in (places_of y) w.words
       point : is_point_store w.log n p.forward.effect ≡ not (list_any is_store p.later)
@@ -185,18 +218,18 @@ module _ {y : System} {s : IsSystem y} {w : World} {h : ℕ} (site : AtNode y s 
     same_words = ap (λ (z : World). z.words) p.forward.world
 
     two_fences : fences_ahead effects_all ≡ 2
-    two_fences = boundaries_fence boundary site.core.side resume site.core.registers
+    two_fences = boundaries_fence boundary site.core.view.side resume site.core.registers
+
+    some_stores : list_any is_store effects_all ≡ true
+    some_stores = boundary_stores boundary site.core.view.side resume site.core.registers
 
     -- where the point is still to be stored after it, it isn't the point's store
     stores_ahead : is_store p.forward.effect ≡ false → list_any is_store effects_all ≡ list_any is_store p.later →
         is_point_store w.log n p.forward.effect ≡ not (list_any is_store p.later)
-    stores_ahead none same = grind (arith, nat_tests)
+    stores_ahead none same = no_point w.log n p.forward.effect none ∙ ap not (sym some_stores ∙ same)
 
     none_more : 0 + fences_ahead p.later ≡ fences_ahead p.later
     none_more = omega arith
-
-    some_stores : list_any is_store effects_all ≡ true
-    some_stores = boundary_stores boundary site.core.side resume site.core.registers
 
     -- it makes the first effect of the boundary
     module _ (rest : effects_all ≡ p.forward.effect ∷ p.later) where
@@ -211,10 +244,10 @@ module _ {y : System} {s : IsSystem y} {w : World} {h : ℕ} (site : AtNode y s 
       inside : IsLogEffect w.log n p.forward.effect × (is_boundary_effect p.forward.effect ≡ true)
       inside = boundaries_stay_in w.log n c.new new_record (config_of w hart (p.forward.effect ∷ p.later)) p.forward.effect p.later log_as refl
 
-      moves : MovesTo n w hart (p.forward.effect ∷ p.later) v p.later
+      moves : MovesTo n all_words w hart (p.forward.effect ∷ p.later) v p.later
       moves =
-          subst (λ (reply : Reply). MovesTo n w hart (p.forward.effect ∷ p.later) v (if has_moved reply then p.later else p.forward.effect ∷ p.later))
-          p.forward.reply (own_steps_move y.runs.program w n hart p.forward.effect p.later next_is inside.1)
+          subst (λ (reply : Reply). MovesTo n all_words w hart (p.forward.effect ∷ p.later) v (if has_moved reply then p.later else p.forward.effect ∷ p.later))
+          p.forward.reply (own_steps_move y.runs.program all_words w n hart p.forward.effect p.later next_is inside.1)
 
       lasts_by : (f : Effect) → p.forward.effect ≡ f → is_store f ≡ false → (word position : ℕ) →
           last_store_after y.runs.program w (Step n) n word (c.last_stores word) ≡ Some position →
@@ -228,6 +261,7 @@ module _ {y : System} {s : IsSystem y} {w : World} {h : ℕ} (site : AtNode y s 
           (c.last_stores word ≡ Some position) ⊎ (IsWordOf w.log n new_record word × (position ≤ last_position (word_at v.words word)))) → IsFirst
       first_by point fenced lasts = record {
         log = log_moved log_found moves;
+        persists = frame_stays log_found moves;
         may = log_may y b w n site.hart.stands.machine.log p.forward.effect inside.0;
         memory = ap (memory_in (places_of y)) same_words
             ∙ log_memory y s w n p.forward.effect hart.queue p.forward.contents p.forward.changes inside.0;
@@ -244,7 +278,8 @@ module _ {y : System} {s : IsSystem y} {w : World} {h : ℕ} (site : AtNode y s 
       }
 
       point_kept : (f : Effect) → p.forward.effect ≡ f → is_store f ≡ false → is_point_store w.log n p.forward.effect ≡ not (list_any is_store p.later)
-      point_kept f is none = grind (arith, nat_tests)
+      point_kept f is none = stores_ahead (ap is_store is ∙ none)
+          (ap (list_any is_store) rest ∙ ap (λ (some : Bool). some || list_any is_store p.later) (ap is_store is ∙ none))
 
       unfenced : (f : Effect) → p.forward.effect ≡ f → fences_ahead (f ∷ p.later) ≡ fences_ahead p.later → fences_ahead p.later < 2 → p.forward.effect ≡ Fences
       unfenced f is none few = grind (arith, two_fences)
@@ -268,9 +303,10 @@ module _ {y : System} {s : IsSystem y} {w : World} {h : ℕ} (site : AtNode y s 
 
     by_made : Made [] effects_all p.later p.forward.effect → IsFirst
     by_made (no_effect none unfenced same) = record {
-      log = steps_keep y.runs.program n n c.new new_record w p.later site.hart.stands.machine.sound
-          (subst (λ (rest : List Effect). LogInv n c.new new_record w rest) (sym same) log_first)
-          (stores_nothing y.runs.program w n n hart p.forward.effect next_is none);
+      log = log_moved (log_at (subst (λ (rest : List Effect). LogInv n c.new new_record w rest) (sym same) log_first) hart mark.at.on.here)
+          (steps_move y.runs.program all_words w n n hart p.later site.hart.stands.machine.sound mark.at.on.here
+          (stores_nothing y.runs.program all_words w n n hart p.forward.effect next_is none));
+      persists = stays_all site at_mark p (stores_nothing y.runs.program all_words w n n hart p.forward.effect next_is none);
       may = nothing p.forward.effect none;
       memory = ap (memory_in (places_of y)) (same_words ∙ words_same p.forward.effect (record { words = w.words; queue = hart.queue })
           p.forward.contents none p.forward.changes);
@@ -296,27 +332,30 @@ module _ {y : System} {s : IsSystem y} {w : World} {h : ℕ} (site : AtNode y s 
       first_accesses = λ byte. first_access_after y.runs.program w (Step n) n byte (c.first_accesses byte);
     }
 
-    abbrev side_next : ℕ
-    side_next = side_after boundary site.core.side
+    abbrev view_next : LogView
+    view_next = view_after boundary site.core.view
 
     phase : InPhase y v next code new p.on.on.hart graph_thread_next p.on.on.hart.phase
     phase =
         subst (λ (q : Phase). InPhase y v next code new p.on.on.hart graph_thread_next q) (sym p.on.on.runs)
         (on_fragment (Gives graph_thread.at mutex) mark.steps (record {
           environment = here;
-          answers = bare_answers y s w h site.hart.below (now next.config);
-          just_read = bare_just_read y s w h site.hart.below next new;
-          side = side_next;
-          at_side = side_follows boundary site.core.side resume site.core.registers begins.recoverable;
+          answers = frame_guarded site.hart (now next.config);
+          loaded = frame_loaded site.hart next new;
+          view = view_next;
+          at_side = side_follows boundary begins.framed frame site.core.view.side resume site.core.registers begins.recoverable;
+          frame = view_persists w v n site.core.view (log_stays y.runs.program w (Step n) site.hart.stands.machine.sound) first.persists site.core.frame;
           fragment =
               fragments_see_all y.plan code.thread places y.runs.program v n here (stage_then site doing) mark.steps p.later (now_of y next).variables p.on;
           fits = record {
             execution = site.core.goes.execution;
             cleans = refl;
             gives = refl;
+            written = refl;
             before = λ un. has_unlocked;
             after = λ over. absurd (true≢false (sym over));
           };
+          owes = tt;
           soon = (passed_soon site at_mark p, omega arith);
         }))
 
@@ -337,7 +376,9 @@ module _ {y : System} {s : IsSystem y} {w : World} {h : ℕ} (site : AtNode y s 
     lasts_then : LastsAre step
     lasts_then word position is =
         ⊎_elim (λ was. inl was)
-        (λ own. inr (subst (λ (l : Log). IsWordOf l n new_record word) (sym (log_stays y.runs.program w (Step n) site.hart.stands.machine.sound)) own.0, own.1))
+        (λ own. inr (recorded_in (subst (λ (l : Log). IsWordOf l n new_record word) (sym (log_stays y.runs.program w (Step n) site.hart.stands.machine.sound))
+        own.0)
+        own.1))
         (first.lasts word position is)
 
     points : stores_point y.runs.program w (Step n) n ≡ (not (is_bound c) && is_bound new)
@@ -346,6 +387,22 @@ module _ {y : System} {s : IsSystem y} {w : World} {h : ℕ} (site : AtNode y s 
 
     bound : is_bound c ≡ true → is_bound new ≡ true
     bound is = absurd (not_bound c site.core.goes.goes.committed is)
+
+    frame_then : IsSectioned new → (word : ℕ) → IsFrameWord v.log word → IsFrameFlushed y v next code new p.on.on.hart word
+    frame_then sectioned word framed =
+        let log = log_stays y.runs.program w (Step n) site.hart.stands.machine.sound in
+        let is : IsFrameWord w.log word = subst (λ (l : Log). IsFrameWord l word) log framed in
+        let f = t.stored.frame (inl in_section) word is in
+        let reached = frame_queued site.hart none_ahead (inl in_section) word is in
+        frame_still y w v b next code c new t.log.hart p.on.on.hart log first.persists (reaches_on site at_mark p)
+        (λ other has. absurd (contains_none _ (subst (λ (es : List Effect). Contains es (Cleans (frame_at w.log n other))) none_ahead has))) word framed
+        (λ un few.
+        let low = fences_settle y.runs.program w n (run_at y.plan code.thread places mark.at) p.forward (first.fenced few) (frame_word w.log n word)
+        (last_position (frame_in w.log w.words n word))
+        (subst (λ (x : Hart). PersistsThrough w.words x.queue (frame_word w.log n word) (last_position (frame_in w.log w.words n word)))
+        (sym (old_hart site at_mark)) reached) in
+        let same = same_last _ _ (first.persists word is) in
+        subst (λ (l : Log). last_position (frame_in l v.words n word) ≤ (frame_in l v.words n word).durable) (sym log) (omega (arith, low, same))) f
 
     abbrev own : ThreadInv y v next code new
     own = record {
@@ -360,15 +417,20 @@ module _ {y : System} {s : IsSystem y} {w : World} {h : ℕ} (site : AtNode y s 
           (λ word position among low.
           let settled =
           recorded_settled w.log n c.new w.words (ends w.log n c.old c.new (config_of w t.log.hart c.rest) t.log.log site.core.goes.goes.rest) word among in
-          durable_there (step_durable y.runs.program w n site.hart.stands.machine.sound word position (omega (arith, low, settled)))) t.stored;
-      has_read = reads_after step (record {
-        hart = hart;
-        effect = p.forward.effect;
-        is_next = next_is;
-        environment = here;
-        answered = passed_answers here _ p.forward.by p.forward.effect p.forward.leads;
-        just = bare_just_read y s w h site.hart.below next new;
-      }) t.has_read bound (omega arith) (omega arith) (λ byte. refl) points (λ variable number place width byte unbound writes is from to. inl writes);
+          durable_there (step_durable y.runs.program w n site.hart.stands.machine.sound word position (omega (arith, low, settled))))
+          (frames_stay step (log_stays y.runs.program w (Step n) site.hart.stands.machine.sound) (step_last y.runs.program w n site.hart.stands.machine.sound))
+          frame_then t.stored;
+      has_read =
+          let one_begun = counted_own n b.config.uncommitted in
+          reads_after step (record {
+            hart = hart;
+            effect = p.forward.effect;
+            is_next = next_is;
+            environment = here;
+            answered = passed_answers here _ p.forward.by p.forward.effect p.forward.leads;
+            loaded = frame_loaded site.hart next new;
+          }) t.has_read bound (omega arith) (omega arith) (λ there. inr (none_bound c site.core.goes.goes.committed, omega (arith, one_begun)))
+          (omega (arith, one_begun)) (λ byte. refl) points (λ variable number byte writes of. inl writes);
     }
 
     -- ---- Locks
@@ -399,6 +461,8 @@ module _ {y : System} {s : IsSystem y} {w : World} {h : ℕ} (site : AtNode y s 
             coe 0 1 (i. AreFencesCounted (boundary_fences y.plan.log) ((sym p.fence) i) ((sym p.point) i) ((sym site.core.goes.goes.rest) i) p.later)
             first.fences;
         nears = begins_step refl;
+        told = sym (told_new site);
+        begins_told = told_at site;
         last = λ word. refl;
         accesses = λ byte. refl;
       };

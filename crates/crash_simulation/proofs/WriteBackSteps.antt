@@ -1,11 +1,17 @@
 -- A hart at its node's code that writes an entry of its queue back stays there.
-use Rattle.crash_simulation.proofs.Common.{◌≡◌, ℕ, List, ◌∷◌, sym, ◌∙◌, ap, arith, subst, true, false, refl, suc, ◌+◌, [], length, Bool, not, true≢false, ◌-◌}
-use Rattle.crash_simulation.proofs.Common.{⊎_elim, nat_tests, none-some, AreEntries, PersistsThrough, Entry, write_backs_raise, World, is_running, Memory}
-use Rattle.crash_simulation.proofs.Common.{persists, memory_in, memory_persisted, since_is_persisted, IsNext, is_store, stores_nothing, one_effect}
-use Rattle.crash_simulation.proofs.Common.{drains_reach, MarksPass, stays_are_at_core, AbstractRun, is_bound, nothing_released, is_nearer, MayStore, nothing}
-use Rattle.crash_simulation.proofs.Common.{goes, IsSoon, core_ahead, System, IsSystem, places_of, ThreadGhost, InPhase, ThreadInv, IsInAttempt}
-use Rattle.crash_simulation.proofs.Common.{Effect, finishes_fence, stores_point, Step, boundary_fences, AreFencesCounted}
-use Rattle.ido_base.specs.Growth.{ArePersisted}
+use Rattle.crash_simulation.proofs.Common.{Record, cond-true, is_some, ◌≡◌, ℕ, List, ◌∷◌, sym, ◌∙◌, ap, arith, subst, true, false, refl, suc, ◌+◌, [], length}
+use Rattle.crash_simulation.proofs.Common.{Bool, not, true≢false, ◌-◌, ⊎_elim, nat_tests, none-some, AreEntries, PersistsThrough, Entry, write_backs_raise}
+use Rattle.crash_simulation.proofs.Common.{World, is_running, Memory, persists, memory_in, memory_persisted, since_is_persisted, IsNext, is_store, ◌++◌}
+use Rattle.crash_simulation.proofs.Common.{stores_nothing, one_effect, drains_reach, MarksPass, stays_are_at_core, AbstractRun, is_bound, nothing_released}
+use Rattle.crash_simulation.proofs.Common.{is_nearer, MayStore, nothing, goes, IsSoon, core_ahead, System, IsSystem, places_of, ThreadGhost, InPhase}
+use Rattle.crash_simulation.proofs.Common.{ThreadInv, IsInAttempt, Effect, finishes_fence, stores_point, Step, boundary_fences, AreFencesCounted, ap₂, inr}
+use Rattle.crash_simulation.proofs.Common.{Cleans, Contains, IsFrameFlushed, IsFrameWord, IsSectioned, at_core, contains_none, frame_at, frame_in, steps_move}
+use Rattle.ido_base.specs.Growth.{ArePersisted, IsPersisted}
+use Rattle.crash_simulation.proofs.Common.{Hart, run_at}
+use Rattle.crash_simulation.proofs.FrameFlushes.{frame_still}
+use Rattle.crash_simulation.proofs.FrameWords.{all_named, all_words}
+use Rattle.crash_simulation.proofs.PendingFlushes.{frames_stay}
+use Rattle.crash_simulation.proofs.ThreadViews.{frame_stays, view_persists}
 use Rattle.recovery_semantics.specs.ElementHistories as histories
 use Rattle.crash_simulation.proofs.BoundaryFences.{same_fences}
 use Rattle.crash_simulation.proofs.CompletedEffects.{accessed_by, last_by, step_durable, step_last, stores_none}
@@ -64,19 +70,58 @@ module _ {y : System} {s : IsSystem y} {w : World} {h : ℕ} (site : AtNode y s 
   holders_stay : v.holders ≡ w.holders
   holders_stay = ap (λ (z : World). z.holders) d.world
 
+  -- the words of its frame keep their values
+  frame_same : (own : ℕ) → IsFrameWord w.log own → IsPersisted (frame_in w.log w.words n own) (frame_in w.log v.words n own)
+  frame_same =
+      let moves = steps_move y.runs.program all_words w n n t.log.hart c.rest sound t.log.here
+      (stores_nothing y.runs.program all_words w n n hart d.effect is_next no_store) in
+      frame_stays t.log moves
+
   -- the queue is one entry shorter
   nearer : (c.before_mark ≡ suc (c.before_mark - 1)) × IsSoon y n (c.before_mark - 1) (length later_hart.queue + core_ahead y.plan places graph_thread.at)
   nearer = grind (arith, nat_tests)
 
   phase : InPhase y v next code new later_hart graph_thread later_hart.phase
-  phase = grind (arith, environment, going, stage_then, stays_are_at_core, goes_here, nearer)
+  phase = subst (InPhase y v next code new later_hart graph_thread) (sym stays.still.on.runs) (at_core (record {
+    view = site.core.view;
+    at_side = site.core.at_side;
+    frame = view_persists w v n site.core.view (log_stays y.runs.program w (Step n) sound) frame_same site.core.frame;
+    owed = site.core.owed;
+    registers = site.core.registers;
+    core = stays_are_at_core y.plan code.thread places y.runs.program w n (environment site m.doing) m.doing.effect (stage_then site m.doing) m.mark.steps
+        m.mark.effects m.mark.at stays graph_thread.at seen site.core.view site.core.owed site.core.registers site.core.core;
+    owes = record { number = site.core.owes.number; beside = site.core.owes.beside };
+    goes = record { goes = goes_next; cleans = refl; execution = site.core.goes.execution };
+    fresh = site.core.fresh;
+    told = site.core.told;
+    untold = site.core.untold;
+    soon = nearer.1;
+  }))
+    where
+      goes_next : IsInAttempt y next.config n new
+      goes_next = record { going = goes_here.going; rest = refl; giving = refl; committed = refl }
 
   reaches : (j position : ℕ) → PersistsThrough w.words t.log.hart.queue j position → PersistsThrough v.words later_hart.queue j position
-  reaches j position r = grind (arith, drains_reach, old_hart)
+  reaches j position r = subst (λ (x : Hart). PersistsThrough v.words x.queue j position) (sym stays.same)
+      (drains_reach y.runs.program w n (run_at y.plan code.thread places m.mark.at) d j position
+      (subst (λ (x : Hart). PersistsThrough w.words x.queue j position) (sym (old_hart site m)) r))
+
+  frame_then : IsSectioned new → (own : ℕ) → IsFrameWord v.log own → IsFrameFlushed y v next code new later_hart own
+  frame_then sectioned own framed =
+      let log = log_stays y.runs.program w (Step n) sound in
+      frame_still y w v b next code c new t.log.hart later_hart log frame_same reaches
+      (λ other has. absurd (contains_none _ (subst (λ (es : List Effect). Contains es (Cleans (frame_at w.log n other)))
+      (ap₂ ◌++◌ site.core.goes.cleans goes_here.rest) has))) own framed (λ un. absurd (true≢false un))
+      (t.stored.frame (was sectioned) own (subst (λ (l : Log). IsFrameWord l own) log framed))
+    where
+      was : IsSectioned new → IsSectioned c
+      was (inl some) = inl some
+      was (inr both) = absurd (both.1 refl)
 
   abbrev own : ThreadInv y v next code new
   own =
-      let log = log_going site (stores_nothing y.runs.program w n n hart d.effect is_next no_store) later_hart stays.still.on.here in
+      let log = log_going site all_words (all_named w.log c.new t.log.log.follows.new_is)
+      (stores_nothing y.runs.program all_words w n n hart d.effect is_next no_store) later_hart stays.still.on.here in
       record {
         log = log;
         records = records_going site next refl [] (c.before_mark - 1) c.last_stores c.first_accesses log;
@@ -87,8 +132,10 @@ module _ {y : System} {s : IsSystem y} {w : World} {h : ℕ} (site : AtNode y s 
             (λ u i p since. since_is_persisted b.config.memory memory u i p memory_persists since) (λ u i f un. absurd (true≢false un)) refl
             (step_durable y.runs.program w n sound) (λ word position is. inl is)
             (λ word position among low. recorded_in (subst (λ (l : Log). IsWordOf l n c.new word) (sym (log_stays y.runs.program w (Step n) sound)) among)
-            (step_last y.runs.program w n sound word position low)) t.stored;
-        has_read = reads_same passage (λ byte. refl) (none_bound c goes_here.committed) refl refl t.has_read;
+            (step_last y.runs.program w n sound word position low))
+            (frames_stay passage (log_stays y.runs.program w (Step n) sound) (step_last y.runs.program w n sound)) frame_then t.stored;
+        has_read = reads_same passage (λ byte. refl) (none_bound c goes_here.committed) refl refl
+            (λ there. inl (record { graph_thread = there.graph_thread; found = there.found; no_store = there.no_store })) (omega arith) t.has_read;
       }
 
   stays_step : StepOf site.hart n
@@ -111,9 +158,11 @@ module _ {y : System} {s : IsSystem y} {w : World} {h : ℕ} (site : AtNode y s 
           (stores_point y.runs.program w (Step n) n) rest []) (sym goes_here.rest)
           (same_fences (boundary_fences y.plan.log) _ _ [] stays.counts.1 stays.counts.0);
       nears = is_nearer nearer.0;
+      told = ap (λ (r : Record). is_some r.written) (sym (cond-true c.committed c.new c.old goes_here.committed));
+      begins_told = λ no. absurd (true≢false (sym no));
       last = λ word. last_by y.runs.program w n word (c.last_stores word) hart d.effect is_next (stores_none word d.effect no_store);
-      accesses =
-          λ byte. accessed_by y.runs.program w n byte (c.first_accesses byte) hart d.effect is_next (held_up_accesses_none d.effect hart.queue d.held_up);
+      accesses = λ byte.
+          accessed_by y.runs.program w n byte (c.first_accesses byte) hart d.effect is_next (held_up_accesses_none d.effect hart.queue d.held_up);
     };
     released = nothing_released (holders_stay_none y.runs.program w n holders_stay) (sym (none_leaving c goes_here.giving));
   }

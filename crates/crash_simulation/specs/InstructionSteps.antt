@@ -1,5 +1,5 @@
 -- A step of a hart that executes instructions: what it is to its own thread, and all that the others need to know of it.
-use Rattle.std.specs.Prelude.{◌≡◌, ◌≢◌, ◌⊎◌, ℕ, suc, ◌/◌, ◌<◌, slice_get, Option, Some, is_some, Bool, true, false, not, ◌&&◌, ◌==◌, if◌then◌else◌}
+use Rattle.std.specs.Prelude.{◌≡◌, ◌≢◌, ◌⊎◌, ℕ, suc, ◌/◌, ◌<◌, slice_get, ℤ, Option, Some, is_some, Bool, true, false, not, ◌&&◌, ◌==◌, if◌then◌else◌}
 use Rattle.c_tree.specs.Exprs.{LockName}
 use Rattle.machine_events.specs.declared.event.Event.TheVariants.{Step}
 use Rattle.machine_events.specs.declared.event.Reply.TheVariants.{Waits}
@@ -18,11 +18,13 @@ use Rattle.machine_model.specs.Schedule.{passes_mark, stores_point, finishes_fen
 use Rattle.crash_simulation.specs.Accesses.{first_access_after}
 use Rattle.crash_simulation.specs.StorePositions.{last_store_after}
 use Rattle.flow_graph.specs.Nodes.{Lock, Node}
+use Rattle.flow_graph.specs.IdempotentCuts.{IsChosen}
 use Rattle.flow_graph.specs.Liveness.{NodeAt}
+use Rattle.region_attempts.specs.GraphStates.{node_of}
 use Rattle.hart_runs.specs.Calls.{IsInPhase}
-use Rattle.thread_runs.specs.CodeFragments.{ExitPoint, Asks, Gives, Ends}
+use Rattle.thread_runs.specs.CodeFragments.{ExitPoint, Computes, Asks, Gives, Ends}
 use Rattle.recovery_semantics.specs.Configs.{Config, now}
-use Rattle.recovery_semantics.specs.Events.{ConfigStep, steps_locally, stores, synchronises, persists, commits, crashes}
+use Rattle.recovery_semantics.specs.Events.{ConfigStep, steps_begun, steps_locally, stores, synchronises, persists, commits, crashes}
 use Rattle.recovery_semantics.specs.Executions.{Execution}
 use Rattle.recovery_semantics.specs.VariableSpots.{memory_in}
 use Rattle.region_attempts.specs.AttemptsInRegion.{RespectsAll}
@@ -30,9 +32,9 @@ use Rattle.log_states.specs.Logs.{log_word}
 use Rattle.log_states.specs.Stages.{is_store}
 use Rattle.log_states.specs.Machines.{IsNext}
 use Rattle.crash_simulation.specs.Systems.{System, IsSystem, flat_of, shapes_of, places_of, thread_count}
-use Rattle.crash_simulation.specs.AbstractRuns.{AbstractRun}
+use Rattle.crash_simulation.specs.AbstractRuns.{AbstractRun, now_of}
 use Rattle.crash_simulation.specs.BoundaryFences.{boundary_fences, AreFencesCounted}
-use Rattle.crash_simulation.specs.ThreadGhosts.{ThreadGhost, InFragment, AtCore, ThreadInv}
+use Rattle.crash_simulation.specs.ThreadGhosts.{ThreadGhost, InFragment, AtCore, ThreadInv, tells_write}
 pub use Rattle.crash_simulation.specs.ThreadGhosts.{is_bound}
 use Rattle.crash_simulation.specs.SimulationRelation.{AreLocked, SimulatesBut, Simulates, anybody}
 
@@ -97,6 +99,10 @@ pub data Nears (y : System) (w : World) (h : ℕ) (begun : Bool) (old new : ℕ)
   halts : (hart : Hart) → slice_get (after_event y.runs.program w (Step h)).harts h ≡ Some hart → (hart.phase ≡ Done) ⊎ (hart.phase ≡ Ended) →
       Nears y w h begun old new
 
+-- a boundary stands before the node by choice exactly where so is told
+abbrev pub IsTold : System → (node : ℕ) → (told : Bool) → Type 0
+IsTold y node told = (IsChosen y.plan.graph y.plan.boundaries node → told ≡ true) × (¬ (IsChosen y.plan.graph y.plan.boundaries node) → told ≡ false)
+
 -- the step passes a mark exactly where a step of the source is begun, and stores the thread's point exactly where the steps become bound to that; what it
 -- finishes of fences its boundary has no more ahead
 pub record IsCounted (y : System) (w : World) (b : AbstractRun y) (h : ℕ) (begun : Bool) (old new : ThreadGhost) : Type 0 where
@@ -107,6 +113,9 @@ pub record IsCounted (y : System) (w : World) (b : AbstractRun y) (h : ℕ) (beg
   pub fences : AreFencesCounted (boundary_fences y.plan.log) (finishes_fence y.runs.program w (Step h) h) (stores_point y.runs.program w (Step h) h)
       old.rest new.rest
   pub nears : Nears y w h begun old.before_mark new.before_mark
+  -- what the kept record tells of a write stays, and is right of the node where the first step of an attempt is begun
+  pub told : tells_write new ≡ tells_write old
+  pub begins_told : begun ≡ true → steps_begun b.config h ≡ 0 → (node : ℕ) → node_of (now_of y b) h ≡ Some node → IsTold y node (tells_write old)
   -- a store is the last one then
   pub last : (word : ℕ) → new.last_stores word ≡ last_store_after y.runs.program w (Step h) h word (old.last_stores word)
   -- and an access the first one, if there was none
@@ -159,15 +168,17 @@ module _ {y : System} {s : IsSystem y} {w : World} {h : ℕ} (site : Site y s w 
   abbrev pub AtCoreNow : Type 0
   AtCoreNow = AtCore y w site.stands.abstract (s.codes.each h site.below) (site.stands.ghosts h) thread_of.log.hart thread_of.graph_thread
 
-  -- where a hart in Run makes its step: in a fragment, at its end where it calls, or at the code of a node that takes no mutex
+  -- where a hart in Run makes its step: in a fragment, at its end where it calls or stores a local outside sections, or at the code of a node that takes no
+  -- mutex
   pub data IsReadyToStep : Type 0 where
     on_fragment : (exit : ExitPoint) (steps : ℕ) → OnFragmentNow exit (suc steps) → IsReadyToStep
     calls : (exit : ExitPoint) → OnFragmentNow exit 0 → IsCalling exit → IsReadyToStep
+    stores_local : (from local : ℕ) (number : ℤ) → OnFragmentNow (Computes from local number) 0 → IsReadyToStep
     at_core : AtCoreNow → ((is : Node) (lock : LockName) (next : ℕ) → NodeAt y.plan.graph thread_of.graph_thread.at is → is.action ≢ Lock lock next) →
         IsReadyToStep
 
 -- whether the thread's steps are bound, whether it leaves a section, what it has to give back, how near its hart is to the next mark, where that has
--- stored last, and what it has done to each byte first, are the same
+-- stored last, what it has done to each byte first, and what the kept record tells of a write, are the same
 pub record SaysSame (new old : ThreadGhost) : Type 0 where
   pub bound : is_bound new ≡ is_bound old
   pub leaving : is_leaving new ≡ is_leaving old
@@ -175,6 +186,7 @@ pub record SaysSame (new old : ThreadGhost) : Type 0 where
   pub ahead : new.before_mark ≡ old.before_mark
   pub last : new.last_stores ≡ old.last_stores
   pub accesses : new.first_accesses ≡ old.first_accesses
+  pub told : tells_write new ≡ tells_write old
 
 -- two machines simulate the same abstract run, and the same is said of each thread
 pub record AreSimilar (y : System) (s : IsSystem y) {w v : World} (old : Simulates y s w) (new : Simulates y s v) : Type 0 where
@@ -206,6 +218,10 @@ CoresStep = (y : System) (s : IsSystem y) (w : World) (h : ℕ) (site : Site y s
 abbrev pub CallsStep : Type 0
 CallsStep = (y : System) (s : IsSystem y) (w : World) (h : ℕ) (site : Site y s w h) → IsInPhase w h Run → (exit : ExitPoint) → OnFragmentNow site exit 0 →
     IsCalling exit → OwnStep y s w h site.stands
+
+abbrev pub LocalStoresStep : Type 0
+LocalStoresStep = (y : System) (s : IsSystem y) (w : World) (h : ℕ) (site : Site y s w h) → IsInPhase w h Run → (from local : ℕ) (number : ℤ) →
+    OnFragmentNow site (Computes from local number) 0 → OwnStep y s w h site.stands
 
 -- where a step of a hart that executes instructions is one of its thread's own, the machine simulates an abstract run after it, with commits still to be taken
 abbrev pub OwnStepsSimulate : Type 0

@@ -1,12 +1,12 @@
 -- Where a thread of a compiled program is, by its graph thread and its ghost state.
-use Rattle.std.specs.Prelude.{◌≡◌, ◌≢◌, ℕ, suc, ◌+◌, ◌/◌, ◌<◌, ◌≤◌, List, [], ◌++◌, length, slice_get, Contains, Option, Some, None, Bool, true, false}
-use Rattle.std.specs.Prelude.{not, ◌&&◌, if◌then◌else◌}
+use Rattle.std.specs.Prelude.{◌≡◌, ◌≢◌, ◌⊎◌, ℕ, ℤ, ◌+◌, ◌/◌, ◌<◌, ◌≤◌, List, [], ◌++◌, length, slice_get, Contains, Option, Some, None, is_some, Bool, true}
+use Rattle.std.specs.Prelude.{false, if◌then◌else◌, suc, not, ◌&&◌}
 use Rattle.std.specs.List.{list_any}
 use Rattle.ido_base.specs.Layout.{variable_at, byte_number, word_number}
 use Rattle.ido_base.specs.Growth.{PersistsThrough}
-use Rattle.ido_base.specs.Words.{last_position, word_at}
+use Rattle.ido_base.specs.Words.{last_position, live_value, word_at}
 use Rattle.log_schemes.specs.declared.log.Log.{Log}
-use Rattle.log_schemes.specs.Layout.{point_at}
+use Rattle.log_schemes.specs.Layout.{frame_at, point_at}
 use Rattle.ido_ints.specs.Kinds.{bytes_of}
 use Rattle.c_tree.specs.Programs.{Variable}
 use Rattle.c_tree.specs.WellFormed.{elements_in}
@@ -17,8 +17,10 @@ use Rattle.machine_model.specs.declared.phase.Phase.TheVariants.{Take, Wait, Res
 use Rattle.rv64_isa.specs.Rows.{Effect, Cleans}
 use Rattle.machine_model.specs.Machine.{Hart, World, bank_of}
 use Rattle.code_runs.specs.CodeTraces.{MarkedEnvironment, seen_effects}
-use Rattle.flow_graph.specs.Actions.{GraphThread, seen_by}
-use Rattle.flow_graph.specs.IdempotentCuts.{IsChosen}
+use Rattle.flow_graph.specs.Actions.{GraphThread, Seen, seen_by}
+use Rattle.flow_graph.specs.IdempotentCuts.{IsChosen, IsStoreNode}
+use Rattle.log_schemes.specs.Schemes.{locals_of}
+use Rattle.log_schemes.specs.declared.locals.Locals.TheVariants.{Frame}
 use Rattle.flow_graph.specs.Paths.{element}
 use Rattle.recovery_semantics.specs.ElementHistories.{IsSince, history_at}
 use Rattle.recovery_semantics.specs.Attempts.{Writes, WritesAt}
@@ -27,13 +29,15 @@ use Rattle.recovery_semantics.specs.Events.{IsGoing, steps_begun}
 use Rattle.recovery_semantics.specs.Laws.{HasLocked, HasUnlocked, LastUnlocks}
 use Rattle.region_attempts.specs.Laws.{IsReadAt}
 use Rattle.region_attempts.specs.PendingCleans.{line_of, CleansSince}
-use Rattle.log_states.specs.Logs.{Record, IsSideOf, bank_word, slots_of}
+use Rattle.log_states.specs.Logs.{Record, IsFrameWord, IsSideOf, bank_word, frame_in, frame_word, slots_of}
 use Rattle.log_states.specs.Stages.{fences_ahead, is_committed, is_store}
 use Rattle.log_states.specs.Machines.{config_of}
 use Rattle.log_states.specs.LogInvariant.{LogInv}
 use Rattle.hart_runs.specs.RunSteps.{is_clean, steps_left}
-use Rattle.thread_runs.specs.CodeFragments.{ExitPoint, Arrives, Keeps, Asks, Took, Gives, Ends, IsOnFragment, IsAtCore, on_machine}
-use Rattle.recovered_threads.specs.RecordDescriptions.{Code, Describes}
+use Rattle.thread_code.specs.Plans.{IsLogged}
+use Rattle.thread_code.specs.RegistersAtNodes.{LogView}
+use Rattle.thread_runs.specs.CodeFragments.{ExitPoint, Arrives, Keeps, Computes, Asks, Took, Gives, Ends, IsOnFragment, IsAtCore, IsOwnWord, on_machine}
+use Rattle.recovered_threads.specs.RecordDescriptions.{Code, Describes, AreCounted, IsNumberAssigned, the_core, words_in}
 use Rattle.crash_simulation.specs.Systems.{System, flat_of, shapes_of}
 use Rattle.crash_simulation.specs.AbstractRuns.{AbstractRun, kept_of, now_of, attempts_of}
 use Rattle.crash_simulation.specs.Accesses.{Access, load}
@@ -47,7 +51,7 @@ pub record ThreadGhost : Type 0 where
   pub rest : List Effect
   -- the boundary under way, or the last one where none is, is taken as committed: the thread's steps before it are kept
   pub committed : Bool
-  -- the cleans that the code of a store has still to make
+  -- the cleans that the code of a store, or of a logged assignment, has still to make
   pub cleans : List Effect
   -- the mutex that it has unlocked by a step that is begun, but not yet given back
   pub giving : Option ℕ
@@ -62,27 +66,44 @@ pub record ThreadGhost : Type 0 where
 abbrev pub record_kept : ThreadGhost → Record
 record_kept c = if c.committed then c.new else c.old
 
+-- that record's bank is told of a write that comes next
+abbrev pub tells_write : ThreadGhost → Bool
+tells_write c = is_some (record_kept c).written
+
 -- the boundary under way has stored its point and isn't taken as committed: the steps before it are bound to that store
 abbrev pub is_bound : ThreadGhost → Bool
 is_bound c = not c.committed && not (list_any is_store c.rest)
 
 -- ---- What it reads
 
+-- the access is one to the element, with all of its bytes
+pub record IsElementAt (y : System) (variable number address bytes : ℕ) : Type 0 where
+  pub is : Variable
+  pub there : slice_get (flat_of y).variables variable ≡ Some is
+  pub within : number < elements_in is.length
+  pub address_is : address ≡ variable_at (shapes_of y) variable number
+  pub bytes_are : bytes ≡ bytes_of is.kind
+
 module _ (y : System) (s : State) (thread : ℕ) where
   -- an access to an element that the thread guards in the state
   pub record IsGuarded (address bytes : ℕ) : Type 0 where
     pub variable : ℕ
-    pub element : ℕ
-    pub is : Variable
-    pub there : slice_get (flat_of y).variables variable ≡ Some is
-    pub within : element < elements_in is.length
-    pub address_is : address ≡ variable_at (shapes_of y) variable element
-    pub bytes_are : bytes ≡ bytes_of is.kind
-    pub guards : Guards (flat_of y) s thread variable element
+    pub number : ℕ
+    pub at : IsElementAt y variable number address bytes
+    pub guards : Guards (flat_of y) s thread variable number
+
+  -- such an access, or one to a word of its own frame
+  pub data IsReadable (address bytes : ℕ) : Type 0 where
+    of_element : IsGuarded address bytes → IsReadable address bytes
+    of_frame : IsOwnWord y.plan.log thread address → bytes ≡ 8 → IsReadable address bytes
 
   -- the environment answers no others
   abbrev pub AnswersGuarded : MarkedEnvironment → Type 0
-  AnswersGuarded z = (address bytes value : ℕ) → z.around.loads address bytes ≡ Some value → IsGuarded address bytes
+  AnswersGuarded z = (address bytes value : ℕ) → z.around.loads address bytes ≡ Some value → IsReadable address bytes
+
+-- where locals stand in its frame, the words of that have these numbers
+abbrev pub HasView : World → (thread : ℕ) → LogView → Type 0
+HasView w thread view = (word : ℕ) → IsFrameWord w.log word → live_value (frame_in w.log w.words thread word) ≡ words_in w.log thread view word
 
 -- ---- How far it is, by what is begun
 
@@ -102,22 +123,28 @@ module _ (y : System) (m : Config) (thread : ℕ) (c : ThreadGhost) where
     pub execution : graph_thread.ended ≡ ended
 
   -- the attempt stands before the boundary under way, until that is committed: then none of its steps is left that isn't kept
-  pub record IsBounded (graph_thread : GraphThread) (giving : Option ℕ) (Before : Type 0) : Type 0 where
+  pub record IsBounded (graph_thread : GraphThread) (giving : Option ℕ) (write_comes : Bool) (Before : Type 0) : Type 0 where
     pub execution : graph_thread.ended ≡ false
     pub cleans : c.cleans ≡ []
     pub gives : c.giving ≡ giving
+    -- its bank is told whether a write comes next
+    pub written : is_some c.new.written ≡ write_comes
     pub before : c.committed ≡ false → Before
     pub after : c.committed ≡ true → steps_begun m thread ≡ 0
 
-  -- what is true of a thread in a fragment, by the fragment's exit point: before a boundary that stands by choice a step is begun since the last boundary
+  -- where the attempt has no step, the boundary before it stands before no node by choice
+  abbrev pub IsUntold : Record → Type 0
+  IsUntold r = steps_begun m thread ≡ 0 → is_some r.written ≡ false
+
+  -- what is true of a thread in a fragment, by the fragment's exit point: no boundary counts on a local that is stored outside sections
   abbrev pub ExitInv : GraphThread → ExitPoint → Type 0
-  ExitInv graph_thread Arrives =
-      IsInAttempt × (graph_thread.ended ≡ false) × (IsChosen y.plan.graph y.plan.boundaries graph_thread.at → 0 < steps_begun m thread)
-  ExitInv graph_thread Keeps =
-      IsChosen y.plan.graph y.plan.boundaries graph_thread.at × IsGoing m thread × IsBounded graph_thread None (0 < steps_begun m thread)
-  ExitInv graph_thread (Asks mutex next) = GoesClean false graph_thread
-  ExitInv graph_thread (Took from) = IsBounded graph_thread None ((mutex : ℕ) × HasLocked m thread mutex)
-  ExitInv graph_thread (Gives from mutex) = IsBounded graph_thread (Some mutex) (HasUnlocked m thread mutex)
+  ExitInv graph_thread Arrives = IsInAttempt × (graph_thread.ended ≡ false) × IsUntold c.new
+  ExitInv graph_thread (Keeps owed) = IsChosen y.plan.graph y.plan.boundaries graph_thread.at × IsGoing m thread ×
+      IsBounded graph_thread None true (IsUntold c.old)
+  ExitInv graph_thread (Computes from local number) = GoesClean false graph_thread × (c.new.point ≡ 0) × IsUntold c.new
+  ExitInv graph_thread (Asks mutex next) = GoesClean false graph_thread × IsUntold c.new
+  ExitInv graph_thread (Took from) = IsBounded graph_thread None false ((mutex : ℕ) × HasLocked m thread mutex)
+  ExitInv graph_thread (Gives from mutex) = IsBounded graph_thread (Some mutex) false (HasUnlocked m thread mutex)
   ExitInv graph_thread Ends = GoesClean true graph_thread
 
   -- no step is begun that isn't kept, and no boundary is under way
@@ -130,19 +157,32 @@ module _ (y : System) (m : Config) (thread : ℕ) (c : ThreadGhost) where
     pub committed : c.committed ≡ true
     pub whole : c.before_mark ≡ most_ahead y thread
 
--- ---- What it has read
+-- ---- What it has loaded
 
--- an element of a variable, with its address
-pub record IsElementAt (y : System) (variable number address bytes : ℕ) : Type 0 where
-  pub is : Variable
-  pub there : slice_get (flat_of y).variables variable ≡ Some is
-  pub within : number < elements_in is.length
-  pub address_is : address ≡ variable_at (shapes_of y) variable number
-  pub bytes_are : bytes ≡ bytes_of is.kind
+-- a byte of an element
+pub record IsByteOf (y : System) (variable number byte : ℕ) : Type 0 where
+  pub address : ℕ
+  pub bytes : ℕ
+  pub at : IsElementAt y variable number address bytes
+  pub from : address ≤ byte
+  pub to : byte < address + bytes
 
 -- the attempt's step after so many reads the element
 abbrev pub ReadsAt : (y : System) → AbstractRun y → (thread step variable number : ℕ) → Type 0
 ReadsAt y b thread step variable number = IsReadAt (flat_of y) (kept_of y b) b.config.kept thread step (element variable number)
+
+-- the thread stands at a node that makes no store
+pub record StandsAtNoStore (y : System) (b : AbstractRun y) (thread : ℕ) : Type 0 where
+  pub graph_thread : GraphThread
+  pub found : slice_get (now_of y b).graph_threads thread ≡ Some graph_thread
+  pub no_store : IsStoreNode y.plan.graph graph_thread.at → ⊥
+
+-- a byte of a word of the thread's own frame
+pub record IsFrameByte (log : Log) (thread byte : ℕ) : Type 0 where
+  pub address : ℕ
+  pub own : IsOwnWord log thread address
+  pub from : address ≤ byte
+  pub to : byte < address + 8
 
 module _ (y : System) (b : AbstractRun y) (thread : ℕ) (c : ThreadGhost) where
   -- the attempt's last step reads the element that is accessed so, and no boundary has begun since
@@ -155,31 +195,65 @@ module _ (y : System) (b : AbstractRun y) (thread : ℕ) (c : ThreadGhost) where
     pub last : suc step ≡ (attempt_of b.config thread).done
     pub read : ReadsAt y b thread step variable number
 
+  -- what is loaded is what has just been read, or a word of its own frame; or an element for the node where it stands: where locals stand in the frame, a
+  -- logged assignment computes its number before the boundary that comes before its step
+  pub data IsLoaded (address bytes : ℕ) : Type 0 where
+    just_read : IsJustRead address bytes → IsLoaded address bytes
+    own_word : IsOwnWord y.plan.log thread address → bytes ≡ 8 → IsLoaded address bytes
+    read_ahead : (variable number : ℕ) → IsElementAt y variable number address bytes → locals_of y.plan.log ≡ Frame → StandsAtNoStore y b thread →
+        IsLoaded address bytes
+
   -- the environment answers no other loads
-  abbrev pub AnswersJustRead : MarkedEnvironment → Type 0
-  AnswersJustRead z = (address bytes value : ℕ) → z.around.loads address bytes ≡ Some value → IsJustRead address bytes
+  abbrev pub AnswersLoaded : MarkedEnvironment → Type 0
+  AnswersLoaded z = (address bytes value : ℕ) → z.around.loads address bytes ≡ Some value → IsLoaded address bytes
 
   -- the byte is one of an element that a step of the attempt reads, and that no step before it has stored
   pub record IsReadFirst (byte : ℕ) : Type 0 where
     pub variable : ℕ
     pub number : ℕ
-    pub address : ℕ
-    pub bytes : ℕ
-    pub at : IsElementAt y variable number address bytes
-    pub from : address ≤ byte
-    pub to : byte < address + bytes
+    pub of : IsByteOf y variable number byte
     pub step : ℕ
     pub below : step < (attempt_of b.config thread).done
     pub read : ReadsAt y b thread step variable number
     pub unwritten : Writes b.config.kept thread step variable number → ⊥
     pub unbound : is_bound c ≡ false
 
-  -- what its hart has loaded first its attempt has read first, and of what that has stored its hart has accessed each byte, until the point is stored
+  -- where locals stand in the frame each store has a boundary just before it, and no step between them. None comes to an element that was loaded ahead of a
+  -- step, since the point was stored: the thread stands at that step's node still, which makes none, or has begun a step
+  pub record IsReadAhead (byte : ℕ) : Type 0 where
+    pub framed : locals_of y.plan.log ≡ Frame
+    pub variable : ℕ
+    pub number : ℕ
+    pub of : IsByteOf y variable number byte
+    pub since : StandsAtNoStore y b thread ⊎ ((is_bound c ≡ false) × (0 < steps_begun b.config thread))
+
+  -- why no store of the thread comes to a byte that its hart has loaded first; of its own frame nothing is said
+  pub data IsLoadedFirst (byte : ℕ) : Type 0 where
+    read_first : IsReadFirst byte → IsLoadedFirst byte
+    in_own_frame : IsFrameByte y.plan.log thread byte → IsLoadedFirst byte
+    loaded_ahead : IsReadAhead byte → IsLoadedFirst byte
+
+  -- what its hart has loaded first, and of what its attempt has stored its hart has accessed each byte, until the point is stored
   pub record HasRead : Type 0 where
-    pub read : (byte : ℕ) → c.first_accesses byte ≡ Some load → IsReadFirst byte
-    pub written : is_bound c ≡ false → (variable number address bytes byte : ℕ) →
-        Writes b.config.kept thread (attempt_of b.config thread).done variable number →
-        IsElementAt y variable number address bytes → address ≤ byte → byte < address + bytes → c.first_accesses byte ≢ None
+    pub read : (byte : ℕ) → c.first_accesses byte ≡ Some load → IsLoadedFirst byte
+    pub written : is_bound c ≡ false → (variable number byte : ℕ) → Writes b.config.kept thread (attempt_of b.config thread).done variable number →
+        IsByteOf y variable number byte → c.first_accesses byte ≢ None
+
+-- ---- What it owes
+
+-- at the code of a logged assignment, past the boundary before it: the number is the one that it gives its local, and the record counts on words beside that
+pub record IsOwedAt (y : System) (code : Code y.plan) (c : ThreadGhost) (node : ℕ) (seen : Seen) (owed : ℤ) : Type 0 where
+  pub number : IsNumberAssigned y.plan code.thread node seen owed
+  pub beside : IsLogged y.plan code.thread node → AreCounted y.plan code.thread node the_core c.new.framed
+
+-- a thread on its way to there owes that already
+abbrev pub ExitOwes : (y : System) → Code y.plan → ThreadGhost → (node : ℕ) → Seen → ExitPoint → Type 0
+ExitOwes y code c node seen (Keeps owed) = IsOwedAt y code c node seen owed
+ExitOwes y code c node seen exit = Unit {0}
+
+-- the thread stands in a section, or leaves one by the boundary under way
+abbrev pub IsSectioned : ThreadGhost → Type 0
+IsSectioned c = (c.new.point ≢ 0) ⊎ ((c.old.point ≢ 0) × (c.rest ≢ []))
 
 -- ---- What its log says
 
@@ -215,23 +289,30 @@ module _ (y : System) (w : World) (b : AbstractRun y) (code : Code y.plan) (c : 
   pub record InFragment (hart : Hart) (graph_thread : GraphThread) (exit : ExitPoint) (steps : ℕ) : Type 0 where
     pub environment : MarkedEnvironment
     pub answers : AnswersGuarded y (now b.config) code.thread.number environment
-    pub just_read : AnswersJustRead y b code.thread.number c environment
-    pub side : ℕ
-    pub at_side : IsSideOf c.new side
+    pub loaded : AnswersLoaded y b code.thread.number c environment
+    pub view : LogView
+    pub at_side : IsSideOf c.new view.side
+    pub frame : HasView w code.thread.number view
     pub fragment : IsOnFragment y.plan code.thread code.is.places (on_machine y.runs.program w code.thread.number environment)
-        (record { exit = exit; node = graph_thread.at; seen = seen_by (now_of y b) graph_thread; side = side }) steps (c.cleans ++ c.rest)
+        (record { exit = exit; node = graph_thread.at; seen = seen_by (now_of y b) graph_thread; view = view }) steps (c.cleans ++ c.rest)
     pub fits : ExitInv y b.config code.thread.number c graph_thread exit
+    pub owes : ExitOwes y code c graph_thread.at (seen_by (now_of y b) graph_thread) exit
     pub soon : IsSoon y code.thread.number c.before_mark
         (steps_left steps (seen_effects (c.cleans ++ c.rest)) hart.queue + beyond y.plan code.is.places exit graph_thread.at)
 
   pub record AtCore (hart : Hart) (graph_thread : GraphThread) : Type 0 where
-    pub side : ℕ
-    pub at_side : IsSideOf c.new side
+    pub view : LogView
+    pub at_side : IsSideOf c.new view.side
+    pub frame : HasView w code.thread.number view
+    pub owed : ℤ
     pub registers : List ℕ
-    pub core : IsAtCore y.plan code.thread code.is.places w code.thread.number graph_thread.at (seen_by (now_of y b) graph_thread) side registers
+    pub core : IsAtCore y.plan code.thread code.is.places w code.thread.number graph_thread.at (seen_by (now_of y b) graph_thread) view owed registers
+    pub owes : IsOwedAt y code c graph_thread.at (seen_by (now_of y b) graph_thread) owed
     pub goes : GoesClean y b.config code.thread.number c false graph_thread
-    -- at the code of a node with a chosen boundary before it the attempt begins
+    -- at the code of a node with a chosen boundary before it the attempt begins, and that boundary's bank is told of the write that comes
     pub fresh : IsChosen y.plan.graph y.plan.boundaries graph_thread.at → (attempt_of b.config code.thread.number).done ≡ 0
+    pub told : IsChosen y.plan.graph y.plan.boundaries graph_thread.at → is_some c.new.written ≡ true
+    pub untold : ¬ (IsChosen y.plan.graph y.plan.boundaries graph_thread.at) → IsUntold y b.config code.thread.number c c.new
     pub soon : IsSoon y code.thread.number c.before_mark (length hart.queue + core_ahead y.plan code.is.places graph_thread.at)
 
   pub data IsRunningThread (hart : Hart) (graph_thread : GraphThread) : Type 0 where
@@ -260,18 +341,34 @@ module _ (y : System) (w : World) (b : AbstractRun y) (code : Code y.plan) (c : 
         IsComing y w c.cleans hart v e position
     pub fenced : c.committed ≡ false → fences_ahead c.rest < 2 → position ≤ (history_at b.config.memory v e).durable
 
-  -- the word is durable as of the position, or will be: with an element that the attempt has stored there, or with the last record
+  -- the queue reaches the last position of a word of its frame, or a clean of its line is ahead
+  pub data IsFrameComing (hart : Hart) (word : ℕ) : Type 0 where
+    frame_reached : PersistsThrough w.words hart.queue (frame_word w.log code.thread.number word)
+        (last_position (frame_in w.log w.words code.thread.number word)) → IsFrameComing hart word
+    frame_ahead : (other : ℕ) → Contains (c.cleans ++ c.rest) (Cleans (frame_at w.log code.thread.number other)) → other / 8 ≡ word / 8 →
+        IsFrameComing hart word
+
+  -- the word is on its way to be durable, and is durable after the first fence of the next boundary
+  pub record IsFrameFlushed (hart : Hart) (word : ℕ) : Type 0 where
+    pub comes : IsFrameComing hart word
+    pub fenced : c.committed ≡ false → fences_ahead c.rest < 2 →
+        last_position (frame_in w.log w.words code.thread.number word) ≤ (frame_in w.log w.words code.thread.number word).durable
+
+  -- the word is durable as of the position, or will be: with an element that the attempt has stored there, with the last record, or with its frame
   pub data IsOnItsWay (hart : Hart) (word position : ℕ) : Type 0 where
     durable_there : position ≤ (word_at w.words word).durable → IsOnItsWay hart word position
     comes_with : (v e : ℕ) (f : IsFlushed hart v e) → byte_number (variable_at (shapes_of y) v e) / 8 ≡ word → position ≤ f.position →
         IsOnItsWay hart word position
     recorded_in : IsWordOf w.log code.thread.number c.new word → position ≤ last_position (word_at w.words word) → IsOnItsWay hart word position
+    in_frame : (own : ℕ) → IsFrameWord w.log own → frame_word w.log code.thread.number own ≡ word → position ≤ last_position (word_at w.words word) →
+        IsOnItsWay hart word position
 
-  -- what it has still to clean are lines, and what it has stored is on its way, each last store too
+  -- what it has still to clean are lines, and what it has stored is on its way, each last store too; in a section so is its frame
   pub record HasStored (hart : Hart) : Type 0 where
     pub cleans : (effect : Effect) → Contains c.cleans effect → is_clean effect ≡ true
     pub flushed : (v e : ℕ) → Writes b.config.kept code.thread.number (attempt_of b.config code.thread.number).done v e → IsFlushed hart v e
     pub last : (word position : ℕ) → c.last_stores word ≡ Some position → IsOnItsWay hart word position
+    pub frame : IsSectioned c → (word : ℕ) → IsFrameWord w.log word → IsFrameFlushed hart word
 
   -- ---- All of it: its log in memory and what that says, the code ahead, and what it has stored
 

@@ -6,7 +6,7 @@ ghost use Rattle.crash_simulation.specs.RecoveredWords.{RecoveredAreCounted, Rec
 ghost use Rattle.crash_simulation.specs.ReleasedSections.{SectionsAreKept};
 ghost use Rattle.crash_simulation.specs.LaterLives.{LivesSimulate};
 ghost use Rattle.crash_simulation.specs.PointSections.{SectionsEndAtPoints};
-ghost use Rattle.crash_simulation.specs.InstructionSteps.{CallsStep, CoresStep, OwnStepsSimulate, RunsReady, FragmentsStep};
+ghost use Rattle.crash_simulation.specs.InstructionSteps.{CallsStep, CoresStep, LocalStoresStep, OwnStepsSimulate, RunsReady, FragmentsStep};
 
 use thread_runs::laws::{fragments_go_on, marks_pass};
 
@@ -50,7 +50,8 @@ pub fn settled_is_kept()
     ensures { SettledIsKept }
 {}
 
-/// A hart that executes instructions may be taken to be in a fragment, at the call that ends one, or at the code of a node that takes no mutex.
+/// A hart that executes instructions may be taken to be in a fragment, at the call that ends one, at the store of a local outside sections, or at the code of
+/// a node that takes no mutex.
 pub fn runs_ready()
     ensures { RunsReady }
 {}
@@ -67,6 +68,13 @@ pub fn cores_step()
     ensures { CoresStep }
 {
     marks_pass();
+}
+
+/// What a step of a hart is to its thread that stores a local outside sections, whose number is computed.
+pub fn local_stores_step()
+    ensures { LocalStoresStep }
+{
+    fragments_go_on();
 }
 
 /// What a step of a hart at its call is to its thread.
@@ -91,6 +99,7 @@ pub fn runs_simulate()
 {
     fragments_step();
     cores_step();
+    local_stores_step();
 }
 
 /// Whatever happens, the machine still simulates an abstract run.
@@ -100,6 +109,7 @@ pub fn events_stand()
     fragments_go_on();
     fragments_step();
     cores_step();
+    local_stores_step();
 }
 
 /// After every list of events it simulates an abstract run, which begins where this life does, after all lives before it have ended, and its account of begun
@@ -112,6 +122,7 @@ pub fn machines_resume()
     fragments_go_on();
     fragments_step();
     cores_step();
+    local_stores_step();
 }
 
 /// After every list of events in a run from words whose records describe an origin, too: kept steps are those that were kept before, and after them
@@ -122,6 +133,7 @@ pub fn recovered_are_counted()
     fragments_go_on();
     fragments_step();
     cores_step();
+    local_stores_step();
 }
 
 /// The kept schedule of a life holds each section that has ended in it, and at most one more of each thread.
@@ -131,6 +143,7 @@ pub fn sections_are_kept()
     fragments_go_on();
     fragments_step();
     cores_step();
+    local_stores_step();
 }
 
 /// An event of a life ends a section of a thread by its kept schedule exactly where the durable point of its hart, which was not 0, becomes 0. What it takes
@@ -141,6 +154,7 @@ pub fn sections_end_at_points()
     fragments_go_on();
     fragments_step();
     cores_step();
+    local_stores_step();
 }
 
 /// No hart is ever stuck, and one that takes its locks in recovery waits for no other.

@@ -51,7 +51,9 @@ module _ (ascend : LocksAscend) (c : Translation) (is : IsCompilation c) (formed
   ordered : IsOrdered c.flat
   ordered = record {
     formed = formed;
-    disciplined = λ k d within. (is.form.threads k (get_or c.flat.threads k d) (slice_get-get_or c.flat.threads k d within)).sets.disciplined;
+    disciplined = λ k d within.
+        (is.form.sets.sets k (get_or c.flat.threads k d) (get_or is.form.held k []) (slice_get-get_or c.flat.threads k d within)
+        (slice_get-get_or is.form.held k [] (let count = is.form.sets.each_thread in omega (arith, within, count)))).disciplined;
     in_order = order;
   }
 

@@ -1,5 +1,6 @@
 -- Where each hart has ended or is done with its recovery, each stands between sections: it holds nothing and has no point.
-use Rattle.std.proofs.Common.{◌≡◌, ◌⊎◌, inl, inr, refl, ℕ, zero, suc, ◌+◌, ◌≤◌, List, [], ◌∷◌, length, ap, sym, ◌∙◌, arith, Bool, true, false, Option, Some, None}
+use Rattle.std.proofs.Common.{◌≡◌, ◌⊎◌, inl, inr, refl, ℕ, zero, suc, ◌+◌, ◌≤◌, List, [], ◌∷◌, length, ap, sym, ◌∙◌, arith, Bool, true}
+use Rattle.std.proofs.Common.{false, Option, Some, None}
 use Rattle.std.specs.Prelude.{slice_get, is_none, ◌==◌, ◌&&◌}
 use Rattle.std.proofs.lemmas.Bool.{cond_both, eqb-true}
 use Rattle.std.proofs.lemmas.Option.{slice_get_cases}

@@ -1,6 +1,6 @@
 -- Code put together from code that leads to its end.
 use Rattle.std.proofs.Common.{◌≡◌, ℕ, ◌+◌, ◌*◌, ◌^◌, ◌<◌, ◌≤◌, List, [], ◌++◌, length, refl, ap, sym, ◌∙◌, arith, subst, Bool, true, false, ◌==◌, length-append}
-use Rattle.std.specs.Prelude.{slice_set, ◌||◌, ℤ}
+use Rattle.std.specs.Prelude.{slice_set, ◌||◌, ℤ, Option}
 use Rattle.ido_ints.specs.declared.kinds.Kind.{Kind}
 use Rattle.ido_ints.specs.Kinds.{Holds}
 use Rattle.ido_ints.specs.TypedNumbers.{Typed, typed, register_form_of}
@@ -113,11 +113,11 @@ pub begins_right : (h : Homes) (s : Source) (r : Environment) (x : e.Expr) (a b 
     ((n : ℕ) → is_local n ≡ true → w n ≡ false) → IsEvaluationStart h s r x b (config y (m.pc + 4 * length a))
 begins_right h s r x a b w m y legal g are same spares = record {
   at = record { registers = are; stands = stands_right r m.pc a b g.at.stands; room = room_right r a b m g.at };
-  locals = locals_kept h s m.registers y x legal.suits legal.formed (λ n l. same n (spares n l)) g.locals;
+  locals = locals_kept h s r.loads m.registers y x legal.suits legal.formed (λ n l. same n (spares n l)) g.locals;
 }
 
 -- code of one expression begins as code of another does whose locals are held
-pub begins_as : (h : Homes) (s : Source) (r : Environment) (z x : e.Expr) (a : List Instr) (m : LocalConfig) → HoldsLocals h s m.registers x →
+pub begins_as : (h : Homes) (s : Source) (r : Environment) (z x : e.Expr) (a : List Instr) (m : LocalConfig) → HoldsLocals h s r.loads m.registers x →
     IsEvaluationStart h s r z a m → IsEvaluationStart h s r x a m
 begins_as h s r z x a m l g = record { at = g.at; locals = l }
 
@@ -129,7 +129,7 @@ typed_is v k e = ap (λ (j : Kind). typed j v.number) e
 -- z's value is made of that of x, by straight-line code
 pub made : (h : Homes) (x z : e.Expr) (a b : List Instr) (w : ℕ → Bool) (rs rd : ℕ) (k : Kind) (f : Typed → Typed) → 0 < rd → rd < 32 → kind_of x ≡ k →
     ((s : Source) (r : Environment) → IsLegal h s r z → IsLegal h s r x) →
-    ((s : Source) (y : List ℕ) → HoldsLocals h s y z → HoldsLocals h s y x) →
+    ((s : Source) (l : (address bytes : ℕ) → Option ℕ) (y : List ℕ) → HoldsLocals h s l y z → HoldsLocals h s l y x) →
     ((s : Source) → value s.locals s.numbers z ≡ f (value s.locals s.numbers x)) →
     ((n : ℤ) → Holds k n → Holds (f (typed k n)).kind (f (typed k n)).number) →
     ((n : ℤ) (y : List ℕ) → AreRegisters y → Carries y rs (typed k n) → Computes b y rd (register_form_of (f (typed k n)))) →
@@ -144,7 +144,7 @@ made h x z a b w rs rd k f some small kind legal locals is held code g = record 
         let back : f (typed k v.number) ≡ value s.locals s.numbers z = ap f (sym t) ∙ sym (is s) in
         then_ends r a b (λ n. n == rd || w n) (λ y. Carries y rs v) (λ y. Carries y rd (value s.locals s.numbers z)) m
         (wider r a w (λ n. n == rd || w n) (λ y. Carries y rs v) m (λ n q. or_right (n == rd) (w n) q) (g.ends s r m (legal s r l)
-        (begins_as h s r z x a m (locals s m.registers begins.locals) (begins_left h s r z a b m begins))))
+        (begins_as h s r z x a m (locals s r.loads m.registers begins.locals) (begins_left h s r z a b m begins))))
         (λ y are same has. let c : Carries y rs (typed k v.number) = subst (λ (u : Typed). Carries y rs u) t has in
         computed r b w rd (register_form_of (f (typed k v.number))) (λ q. Carries q rd (value s.locals s.numbers z))
         (config y (m.pc + 4 * length a)) some small are

@@ -1,14 +1,15 @@
 -- Code that loads elements or computes their addresses.
 use Rattle.std.proofs.Common.{◌≡◌, ℕ, zero, suc, ◌+◌, ◌*◌, ◌/◌, ◌%◌, ◌^◌, ◌<◌, ◌≤◌, List, [], ◌∷◌, ◌++◌, length, refl, ap, sym, ◌∙◌, arith, subst, Bool}
 use Rattle.std.proofs.Common.{true, false, ◌==◌, lit<}
-use Rattle.std.specs.Prelude.{◌||◌, ◌&&◌, Option, ℤ, pos, negsuc, ◌≤ℤ◌, unsigned_abs, slice_index, slice_set, Some}
+use Rattle.std.specs.Prelude.{◌||◌, ◌&&◌, Option, ℤ, pos, negsuc, ◌≤ℤ◌, unsigned_abs, slice_index, slice_index_or, slice_set, Some}
 use Rattle.std.proofs.lemmas.Int.{ints}
 use Rattle.ido_base.specs.declared.place.Place.{Place}
 use Rattle.ido_ints.specs.declared.kinds.Kind.{Kind}
 use Rattle.ido_ints.specs.declared.kinds.Kind.TheVariants.{Char, UnsignedChar, SignedChar, Short, UnsignedShort, Int, UnsignedInt, Long, UnsignedLong}
 use Rattle.ido_ints.specs.Kinds.{Holds, bytes_of, bits_of}
 use Rattle.ido_ints.specs.Reduction.{residue, register_of}
-use Rattle.ido_ints.specs.TypedNumbers.{Typed, typed}
+use Rattle.ido_ints.specs.TypedNumbers.{Typed, typed, register_form_of}
+use Rattle.ido_ints.proofs.Public.{register_below}
 use Rattle.c_tree.specs.Exprs as e
 use Rattle.c_tree.specs.Ranges.{elements_of}
 use Rattle.c_tree.specs.Values.{value, element_number, element_at}
@@ -23,11 +24,13 @@ use Rattle.rv64_isa.specs.declared.instr.ShiftOperation.TheVariants.{Slli}
 use Rattle.rv64_isa.specs.Rows.{Loads, row, read, written, displaced, load_bytes, load_signed, load_result}
 use Rattle.rv64_isa.specs.Arithmetic.{sign_extended, result_of}
 use Rattle.operator_code.specs.ComputingCode.{AreRegisters, Carries, Computes}
-use Rattle.operator_code.proofs.Public.{equal_by, add_small, read_same, read_other, written_is, lui_row, op_sets, immediate_sets, shift_sets, one}
+use Rattle.operator_code.proofs.Public.{residue_pos, equal_by, add_small, read_same, read_other, written_is, lui_row, op_sets, immediate_sets, shift_sets, one}
 use Rattle.memory_layout.specs.Roles.{is_temporary}
 use Rattle.memory_layout.proofs.Public.{product_small}
 use Rattle.code_runs.specs.ComputingRuns.{Environment, LocalConfig, config, HasCodeAt}
-use Rattle.expr_code.specs.EvaluationCode.{Homes, Source, Suits, HoldsLocals, AreLoaded, IsLegal, HasCodeThere, home_of}
+use Rattle.expr_code.specs.EvaluationCode.{Homes, Source, Suits, HoldsLocals, HomeCarries, AreLoaded, IsFramed, IsLegal, HasCodeThere, home_of}
+use Rattle.expr_code.specs.declared.home.Home.{Home}
+use Rattle.expr_code.specs.declared.home.Home.TheVariants.{InFrame}
 use Rattle.expr_code.specs.EvaluationCode.{IsEvaluationStart, EvaluationEnds, EvaluatesTo, place_of, IsElementAddressCode}
 use Rattle.expr_code.specs.EvaluationCode.{IsVariableAddressCode}
 use Rattle.expr_code.specs.links.OperandCode.{temporary, is_free, IsEvaluation, IsOperand}
@@ -36,7 +39,7 @@ use Rattle.expr_code.specs.links.ElementLoads.{loaded_by, places_of, upper_part,
 use Rattle.expr_code.proofs.RunComposition.{loads, arrive, stands_right}
 use Rattle.expr_code.proofs.PreservedRegisters.{or_left, or_right, own_is_free, spare_is_free, temporary_some, held_there}
 use Rattle.expr_code.proofs.PreservedRegisters.{temporary_small, registers_after_write, is_member}
-use Rattle.expr_code.proofs.CodeComposition.{wider, then_ends, computed, at_left, begins_left, begins_as, room_right}
+use Rattle.expr_code.proofs.CodeComposition.{having, wider, then_ends, computed, at_left, begins_left, begins_as, room_right}
 use Rattle.expr_code.proofs.Addresses.{load_width, loaded_form, index_form, upper_is, parts_meet, IsNear, near_declared, near_some, bytes_small}
 
 -- ---- One more instruction
@@ -175,11 +178,11 @@ plain_upper k held rs address a none h x l operand =
 
 -- ---- Indexes
 
-pub all_held : (h : Homes) (s : Source) (l : (address bytes : ℕ) → Option ℕ) (x : List ℕ) (t : e.Expr) → HoldsLocals h s x t →
+pub all_held : (h : Homes) (s : Source) (l : (address bytes : ℕ) → Option ℕ) (x : List ℕ) (t : e.Expr) → HoldsLocals h s l x t →
     IsExpr s.variables s.kinds t → AreLoaded s l t →
     AllHeld s.locals s.numbers t
 all_held h s l x (e.Constant v) locals f a = tt
-all_held h s l x (e.Local local k) locals f a = held_there x (home_of h.locals local) _ locals
+all_held h s l x (e.Local local k) locals f a = held_there l x (home_of h.locals local) _ locals
 all_held h s l x (e.Variable place variable k) locals f a = a.held
 all_held h s l x (e.Element place variable k index_place index) locals f a = (a.0.held, all_held h s l x index locals f.1 a.1)
 all_held h s l x (e.Address variable index_place index) locals f a = all_held h s l x index locals f.1 a
@@ -201,7 +204,7 @@ record IsIndex (s : Source) (variable : ℕ) (v : Typed) : Type 0 where
   small : element_at v < 2 ^ 31
 
 is_index : (h : Homes) (s : Source) (r : Environment) (m : LocalConfig) (variable : ℕ) (place : Place) (x : e.Expr) → IsLegal h s r x →
-    HoldsLocals h s m.registers x →
+    HoldsLocals h s r.loads m.registers x →
     IndexFits s.variables variable place x → IsIndex s variable (value s.locals s.numbers x)
 is_index h s r m variable place x l locals fits =
     let held = all_held h s r.loads m.registers x locals l.formed l.loaded in
@@ -328,6 +331,39 @@ variable_value k rd address some small h place variable held is = record { ends 
         (λ y are has. load_ends r (is_free held) k rd (address % 4096) (place_of s variable 0) (element_number s.numbers variable 0)
         (config y (m.pc + 4 * 1)) some small are (stands_right r m.pc (u ∷ []) (i ∷ []) b.at.stands) (room_right r (u ∷ []) (i ∷ []) m b.at)
         (is_placed s variable k address 0 y near first_at (lit< tt) (has ∙ none)).at l.loaded.answer l.loaded.held)
+
+-- ---- Locals of the frame
+
+-- the word at an address into a register
+pub framed_value : (rd address : ℕ) → 0 < rd → rd < 32 → (h : Homes) (local : ℕ) (k : Kind) (held : ℕ) → home_of h.locals local ≡ InFrame address →
+    address < 2 ^ 30 →
+    IsEvaluation h (e.Local local k) held rd
+    (Lui 31 ((address + 2048) % 2 ^ 32 / 4096) ∷ Load (loaded_by UnsignedLong) rd 31 (address % 4096) ∷ [])
+framed_value rd address some small h local k held is near = record { ends = ends }
+  where
+    ends : (s : Source) (r : Environment) (m : LocalConfig) → IsLegal h s r (e.Local local k) →
+        IsEvaluationStart h s r (e.Local local k) (Lui 31 ((address + 2048) % 2 ^ 32 / 4096) ∷ Load (loaded_by UnsignedLong) rd 31 (address % 4096) ∷ []) m →
+        EvaluationEnds r (Lui 31 ((address + 2048) % 2 ^ 32 / 4096) ∷ Load (loaded_by UnsignedLong) rd 31 (address % 4096) ∷ [])
+        (λ n. n == rd || is_free held n) (λ y. Carries y rd (typed k (slice_index_or s.locals local (pos 0)))) m
+    ends s r m l b =
+        let u = Lui 31 ((address + 2048) % 2 ^ 32 / 4096) in
+        let i = Load (loaded_by UnsignedLong) rd 31 (address % 4096) in
+        let w : ℕ → Bool = λ n. n == rd || is_free held n in
+        let v : Typed = typed k (slice_index_or s.locals local (pos 0)) in
+        let there : IsFramed r.loads address v = subst (λ (home : Home). HomeCarries r.loads m.registers home v) is b.locals in
+        let below : register_form_of v < 2 ^ 64 = register_below k (slice_index_or s.locals local (pos 0)) in
+        let word : Holds UnsignedLong (pos (register_form_of v)) = (let e : Holds UnsignedLong (pos (register_form_of v)) = record { from_least = omega (arith, ints); to_greatest = omega (arith, below, ints) } in e) in
+        let answer : r.loads address 8 ≡ Some (residue (bits_of UnsignedLong) (pos (register_form_of v))) =
+        there.answer ∙ ap (λ (n : ℕ). Some n) (sym (residue_pos 64 (register_form_of v) below)) in
+        let none : upper_part address ≡ upper_part address + 0 = omega arith in
+        having r (u ∷ i ∷ []) w (λ y. Carries y rd (typed UnsignedLong (pos (register_form_of v)))) (λ y. Carries y rd v) m
+        (λ y c. record { held = there.held; form = c.form ∙ residue_pos 64 (register_form_of v) below })
+        (with_upper r address i w (λ y. Carries y rd (typed UnsignedLong (pos (register_form_of v)))) m (omega (arith, near))
+        (member_or (is_free held) rd 31 (spare_is_free held)) b.at
+        (λ y are has. load_ends r (is_free held) UnsignedLong rd (address % 4096) address (pos (register_form_of v))
+        (config y (m.pc + 4 * 1)) some small are (stands_right r m.pc (u ∷ []) (i ∷ []) b.at.stands) (room_right r (u ∷ []) (i ∷ []) m b.at)
+        (ap (λ (q : ℕ). displaced q 12 (address % 4096)) (has ∙ none) ∙ parts_meet address 0 (omega (arith, near)) (omega arith) ∙ (let e : address + 0 ≡ address = omega arith in e))
+        answer word))
 
 -- ---- Addresses
 

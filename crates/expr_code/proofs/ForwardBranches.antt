@@ -165,12 +165,12 @@ choice h c held rd test t g a past o guards skips tests makes others = record { 
         same : (n : ℕ) → is_local n ≡ true → read first.registers n ≡ read m.registers n
         same n l = first.unchanged n (local_kept held n l)
 
-        begun : (x : e.Expr) (code : List Instr) (pc : ℕ) → IsLegal h s r x → HoldsLocals h s m.registers x → HasCodeAt r pc code →
+        begun : (x : e.Expr) (code : List Instr) (pc : ℕ) → IsLegal h s r x → HoldsLocals h s r.loads m.registers x → HasCodeAt r pc code →
             pc + 4 * length code < 2 ^ 64 →
             IsEvaluationStart h s r x code (config first.registers pc)
         begun x code pc legal locals stands l = record {
           at = record { registers = first.are; stands = stands; room = l };
-          locals = locals_kept h s m.registers first.registers x legal.suits legal.formed same locals;
+          locals = locals_kept h s r.loads m.registers first.registers x legal.suits legal.formed same locals;
         }
 
         test_leads : LeadsBy r m (config first.registers (m.pc + 4 * length t)) (length t)

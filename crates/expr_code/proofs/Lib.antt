@@ -12,3 +12,4 @@ mod TemporaryNeeds
 mod Words
 mod WholeExpressionCode
 mod PureCode
+mod Homes

@@ -50,19 +50,19 @@ pub unary_code : (operator : Unary) (k : Kind) (rd rs : ℕ) (a b : List Instr) 
 unary_code operator k rd rs a b some small u h x held kind operand =
     made h x (e.Unary operator x) a b (is_free held) rs rd k (unary_of operator) some small kind
     (λ s r l. record { suits = l.suits; formed = l.formed; fits = l.fits; loaded = l.loaded })
-    (λ s y q. q) (λ s. refl) (λ n q. Holds-unary_number operator k n) (λ n y are c. u.computes y are n c) operand.gives
+    (λ s l y q. q) (λ s. refl) (λ n q. Holds-unary_number operator k n) (λ n y are c. u.computes y are n c) operand.gives
 
 pub conversion_code : (from to : Kind) (rd rs : ℕ) (a b : List Instr) → 0 < rd → rd < 32 → IsConversion from to rd rs b →
     (h : Homes) (x : e.Expr) (held : ℕ) → kind_of x ≡ from → IsOperand h x held rs a → IsEvaluation h (e.Converted to x) held rd (a ++ b)
 conversion_code from to rd rs a b some small u h x held kind operand =
     made h x (e.Converted to x) a b (is_free held) rs rd from (λ v. converted v to) some small kind
     (λ s r l. record { suits = l.suits; formed = l.formed; fits = l.fits; loaded = l.loaded })
-    (λ s y q. q) (λ s. refl) (λ n q. Holds-reduced to n) (λ n y are c. u.computes y are n c) operand.gives
+    (λ s l y q. q) (λ s. refl) (λ n q. Holds-reduced to n) (λ n y are c. u.computes y are n c) operand.gives
 
 pub copy_code : (rd rs : ℕ) (a b : List Instr) → 0 < rd → rd < 32 → IsCopy rd rs b →
     (h : Homes) (x : e.Expr) (held : ℕ) → IsOperand h x held rs a → IsEvaluation h x held rd (a ++ b)
 copy_code rd rs a b some small u h x held operand =
-    made h x x a b (is_free held) rs rd (kind_of x) (λ v. v) some small refl (λ s r l. l) (λ s y q. q) (λ s. refl) (λ n q. q)
+    made h x x a b (is_free held) rs rd (kind_of x) (λ v. v) some small refl (λ s r l. l) (λ s l y q. q) (λ s. refl) (λ n q. q)
     (λ n y are c. let below : read y rs < 2 ^ 64 = rw c.form (register_below (kind_of x) n) in
     subst (λ (v : ℕ). Computes b y rd v) c.form (u.computes y are below)) operand.gives
 
@@ -106,7 +106,7 @@ local_operand h local k held register is l = record { gives = record { ends = en
     ends s r m legal b =
         let v = typed k (slice_index_or s.locals local (pos 0)) in
         nothing_ends r (is_free held) (λ y. Carries y register v) m b.at.registers
-        (subst (λ (home : Home). HomeCarries m.registers home v) is b.locals)
+        (subst (λ (home : Home). HomeCarries r.loads m.registers home v) is b.locals)
 
 pub constant_value : (v : Typed) (rd : ℕ) (code : List Instr) → 0 < rd → rd < 32 → Holds v.kind v.number → IsConstant rd (register_form_of v) code →
     (h : Homes) (held : ℕ) → IsEvaluation h (e.Constant v) held rd code
@@ -367,7 +367,7 @@ pub truth_code : (k : Kind) (rd rs : ℕ) (a b : List Instr) → 0 < rd → rd <
 truth_code k rd rs a b some small u h x held kind operand =
     let g = made h x (e.Unary Not (e.Unary Not x)) a b (is_free held) rs rd k truth_of some small kind
     (λ s r l. record { suits = l.suits; formed = l.formed; fits = l.fits; loaded = l.loaded })
-    (λ s y q. q) (λ s. ap (λ (t : Bool). typed Int (truth t)) (zero_truth (is_zero (value s.locals s.numbers x).number)))
+    (λ s l y q. q) (λ s. ap (λ (t : Bool). typed Int (truth t)) (zero_truth (is_zero (value s.locals s.numbers x).number)))
     (λ n q. Holds-truth (not (is_zero n))) (λ n y are c. u.computes y are n c) operand.gives in
     record {
       ends = λ s r m l c.

@@ -1,6 +1,6 @@
 -- Registers that keep what they hold.
 use Rattle.std.proofs.Common.{◌≡◌, ℕ, zero, suc, ◌<◌, List, refl, ap, ◌∙◌, arith, Bool, true, false, ◌==◌, lit<, sym}
-use Rattle.std.specs.Prelude.{not, ◌&&◌, ◌||◌, slice_set}
+use Rattle.std.specs.Prelude.{not, ◌&&◌, ◌||◌, slice_set, Option}
 use Rattle.std.proofs.lemmas.Option.{slice_get_within}
 use Rattle.c_tree.specs.Exprs as e
 use Rattle.c_tree.specs.WellFormed.{IsExpr}
@@ -11,7 +11,7 @@ use Rattle.operator_code.proofs.Public.{equal_by, read_other, length-changed}
 use Rattle.expr_code.specs.EvaluationCode.{Homes, Source, Suits, HoldsLocals, home_of, is_home, HomeCarries}
 use Rattle.expr_code.specs.links.OperandCode.{temporary, is_held, is_free}
 use Rattle.expr_code.specs.declared.home.Home.{Home}
-use Rattle.expr_code.specs.declared.home.Home.TheVariants.{InRegister}
+use Rattle.expr_code.specs.declared.home.Home.TheVariants.{InRegister, InFrame}
 use Rattle.ido_ints.specs.declared.kinds.Kind.TheVariants.{UnsignedLong}
 use Rattle.ido_ints.specs.Kinds.{Holds}
 use Rattle.ido_ints.specs.TypedNumbers.{Typed}
@@ -107,33 +107,35 @@ pub same_register : (a b : ℕ) → InRegister a ≡ InRegister b → a ≡ b
 same_register a b same = cc
 
 -- what stands in a home stands there still where the home's register is as it was
-pub still_there : (x y : List ℕ) (home : Home) (v : Typed) → ((register : ℕ) → home ≡ InRegister register → read y register ≡ read x register) →
-    HomeCarries x home v → HomeCarries y home v
-still_there x y (InRegister register) v same l = record { held = l.held; form = same register refl ∙ l.form }
+pub still_there : (l : (address bytes : ℕ) → Option ℕ) (x y : List ℕ) (home : Home) (v : Typed) → ((register : ℕ) → home ≡ InRegister register → read y register ≡ read x register) →
+    HomeCarries l x home v → HomeCarries l y home v
+still_there l x y (InRegister register) v same c = record { held = c.held; form = same register refl ∙ c.form }
+still_there l x y (InFrame address) v same c = c
 
 -- what stands in a home is held by its kind
-pub held_there : (x : List ℕ) (home : Home) (v : Typed) → HomeCarries x home v → Holds v.kind v.number
-held_there x (InRegister register) v l = l.held
+pub held_there : (l : (address bytes : ℕ) → Option ℕ) (x : List ℕ) (home : Home) (v : Typed) → HomeCarries l x home v → Holds v.kind v.number
+held_there l x (InRegister register) v c = c.held
+held_there l x (InFrame address) v c = c.held
 
-pub locals_kept : (h : Homes) (s : Source) (x y : List ℕ) (t : e.Expr) → Suits h s → IsExpr s.variables s.kinds t →
-    ((n : ℕ) → is_local n ≡ true → read y n ≡ read x n) → HoldsLocals h s x t → HoldsLocals h s y t
-locals_kept h s x y (e.Constant value) suits f same l = tt
-locals_kept h s x y (e.Local local k) suits f same l =
-    still_there x y (home_of h.locals local) _
+pub locals_kept : (h : Homes) (s : Source) (loads : (address bytes : ℕ) → Option ℕ) (x y : List ℕ) (t : e.Expr) → Suits h s → IsExpr s.variables s.kinds t →
+    ((n : ℕ) → is_local n ≡ true → read y n ≡ read x n) → HoldsLocals h s loads x t → HoldsLocals h s loads y t
+locals_kept h s loads x y (e.Constant value) suits f same l = tt
+locals_kept h s loads x y (e.Local local k) suits f same l =
+    still_there loads x y (home_of h.locals local) _
     (λ register is. same register (sym (ap is_home is) ∙ suits.local local (slice_get_within s.kinds local k f))) l
-locals_kept h s x y (e.Variable place variable k) suits f same l = tt
-locals_kept h s x y (e.Element place variable k index_place index) suits f same l = locals_kept h s x y index suits f.1 same l
-locals_kept h s x y (e.Address variable index_place index) suits f same l = locals_kept h s x y index suits f.1 same l
-locals_kept h s x y (e.Referent place last local) suits f same l =
-    still_there x y (home_of h.locals local) _
+locals_kept h s loads x y (e.Variable place variable k) suits f same l = tt
+locals_kept h s loads x y (e.Element place variable k index_place index) suits f same l = locals_kept h s loads x y index suits f.1 same l
+locals_kept h s loads x y (e.Address variable index_place index) suits f same l = locals_kept h s loads x y index suits f.1 same l
+locals_kept h s loads x y (e.Referent place last local) suits f same l =
+    still_there loads x y (home_of h.locals local) _
     (λ register is. same register (sym (ap is_home is) ∙ suits.local local (slice_get_within s.kinds local UnsignedLong f))) l
-locals_kept h s x y (e.Unary op t) suits f same l = locals_kept h s x y t suits f same l
-locals_kept h s x y (e.Cast k t) suits f same l = locals_kept h s x y t suits f same l
-locals_kept h s x y (e.Converted k t) suits f same l = locals_kept h s x y t suits f same l
-locals_kept h s x y (e.Binary op t u) suits f same l =
-    (locals_kept h s x y t suits f.0 same l.0, locals_kept h s x y u suits f.1 same l.1)
-locals_kept h s x y (e.Conditional k t u v) suits f same l =
-    (locals_kept h s x y t suits f.0 same l.0, locals_kept h s x y u suits f.1 same l.1, locals_kept h s x y v suits f.2 same l.2)
+locals_kept h s loads x y (e.Unary op t) suits f same l = locals_kept h s loads x y t suits f same l
+locals_kept h s loads x y (e.Cast k t) suits f same l = locals_kept h s loads x y t suits f same l
+locals_kept h s loads x y (e.Converted k t) suits f same l = locals_kept h s loads x y t suits f same l
+locals_kept h s loads x y (e.Binary op t u) suits f same l =
+    (locals_kept h s loads x y t suits f.0 same l.0, locals_kept h s loads x y u suits f.1 same l.1)
+locals_kept h s loads x y (e.Conditional k t u v) suits f same l =
+    (locals_kept h s loads x y t suits f.0 same l.0, locals_kept h s loads x y u suits f.1 same l.1, locals_kept h s loads x y v suits f.2 same l.2)
 
 pub registers_after_write : (x : List ℕ) (rd v : ℕ) → 0 < rd → AreRegisters x → AreRegisters (slice_set x rd v)
 registers_after_write x rd v some a = record {

@@ -1,5 +1,5 @@
 -- Code that evaluates expressions: locals stand in their homes, variables in memory, and every value in its register form.
-use Rattle.std.specs.Prelude.{◌≡◌, ℕ, ◌+◌, ◌*◌, ◌^◌, ◌<◌, ◌≤◌, List, length, map, slice_index, slice_index_or, Option, Some, Bool, true, false, not, ◌==◌}
+use Rattle.std.specs.Prelude.{◌≡◌, ℕ, ◌+◌, ◌*◌, ◌^◌, ◌<◌, ◌≤◌, List, length, map, slice_index, slice_index_or, Option, Some, Bool, true, false, not, nat_lt, ◌==◌}
 use Rattle.std.specs.Prelude.{◌||◌, ℤ, pos, sum_by}
 use Rattle.ido_base.specs.Layout.{variable_at, end_from}
 use Rattle.ido_base.specs.declared.limits.TheConstants.{MOST_VARIABLE_BYTES, MOST_ELEMENTS}
@@ -8,7 +8,7 @@ use Rattle.ido_ints.specs.declared.kinds.Kind.TheVariants.{UnsignedLong}
 use Rattle.ido_ints.specs.Kinds.{Holds, bytes_of, bits_of}
 use Rattle.ido_ints.specs.Reduction.{residue}
 use Rattle.ido_ints.specs.Operators.{is_zero}
-use Rattle.ido_ints.specs.TypedNumbers.{Typed, typed, converted}
+use Rattle.ido_ints.specs.TypedNumbers.{Typed, typed, converted, register_form_of}
 use Rattle.c_tree.specs.Exprs as e
 use Rattle.c_tree.specs.Programs as p
 use Rattle.c_tree.specs.Values.{value, element_number, element_at}
@@ -23,7 +23,7 @@ use Rattle.operator_code.specs.declared.branches.Test.{Test}
 use Rattle.operator_code.specs.ComputingCode.{AreRegisters, Carries, passes}
 use Rattle.expr_code.specs.declared.frame.Frame as frame
 use Rattle.expr_code.specs.declared.home.Home.{Home}
-use Rattle.expr_code.specs.declared.home.Home.TheVariants.{InRegister}
+use Rattle.expr_code.specs.declared.home.Home.TheVariants.{InRegister, InFrame}
 use Rattle.code_runs.specs.ComputingRuns.{Environment, LocalConfig, config, RunsTo, HasCodeAt}
 
 -- ---- Where things are, and what they are
@@ -32,13 +32,20 @@ use Rattle.code_runs.specs.ComputingRuns.{Environment, LocalConfig, config, Runs
 abbrev pub home_of : List Home → (local : ℕ) → Home
 home_of homes local = slice_index_or homes local (InRegister 0)
 
--- locals may stand there: in one of their registers
+-- locals may stand there: in one of their registers, or in a word of memory whose address an instruction's upper part reaches
 abbrev pub is_home : Home → Bool
 is_home (InRegister register) = is_local register
+is_home (InFrame address) = nat_lt address (2 ^ 30)
+
+-- a load of eight bytes at the address gives the value, in its register form
+pub record IsFramed (loads : (address bytes : ℕ) → Option ℕ) (address : ℕ) (v : Typed) : Type 0 where
+  pub held : Holds v.kind v.number
+  pub answer : loads address 8 ≡ Some (register_form_of v)
 
 -- what stands there is the value, in its register form
-abbrev pub HomeCarries : (registers : List ℕ) → Home → Typed → Type 0
-HomeCarries registers (InRegister register) v = Carries registers register v
+abbrev pub HomeCarries : (loads : (address bytes : ℕ) → Option ℕ) → (registers : List ℕ) → Home → Typed → Type 0
+HomeCarries loads registers (InRegister register) v = Carries registers register v
+HomeCarries loads registers (InFrame address) v = IsFramed loads address v
 
 -- the addresses of the variables, and where the locals are
 pub record Homes : Type 0 where
@@ -81,18 +88,18 @@ pub record Suits (h : Homes) (s : Source) : Type 0 where
   pub local : (local : ℕ) → local < length s.kinds → is_home (home_of h.locals local) ≡ true
 
 -- each local that the expression reads stands in its home with its number, which its kind holds
-abbrev pub HoldsLocals : Homes → Source → (x : List ℕ) → e.Expr → Type 0
-HoldsLocals h s x (e.Constant value) = Unit {0}
-HoldsLocals h s x (e.Local local kind) = HomeCarries x (home_of h.locals local) (typed kind (slice_index_or s.locals local (pos 0)))
-HoldsLocals h s x (e.Variable place variable kind) = Unit {0}
-HoldsLocals h s x (e.Element place variable kind index_place index) = HoldsLocals h s x index
-HoldsLocals h s x (e.Address variable index_place index) = HoldsLocals h s x index
-HoldsLocals h s x (e.Referent place last local) = HomeCarries x (home_of h.locals local) (typed UnsignedLong (slice_index_or s.locals local (pos 0)))
-HoldsLocals h s x (e.Unary operator operand) = HoldsLocals h s x operand
-HoldsLocals h s x (e.Cast kind operand) = HoldsLocals h s x operand
-HoldsLocals h s x (e.Converted kind operand) = HoldsLocals h s x operand
-HoldsLocals h s x (e.Binary operator left right) = HoldsLocals h s x left × HoldsLocals h s x right
-HoldsLocals h s x (e.Conditional kind condition chosen otherwise) = HoldsLocals h s x condition × HoldsLocals h s x chosen × HoldsLocals h s x otherwise
+abbrev pub HoldsLocals : Homes → Source → (loads : (address bytes : ℕ) → Option ℕ) → (x : List ℕ) → e.Expr → Type 0
+HoldsLocals h s l x (e.Constant value) = Unit {0}
+HoldsLocals h s l x (e.Local local kind) = HomeCarries l x (home_of h.locals local) (typed kind (slice_index_or s.locals local (pos 0)))
+HoldsLocals h s l x (e.Variable place variable kind) = Unit {0}
+HoldsLocals h s l x (e.Element place variable kind index_place index) = HoldsLocals h s l x index
+HoldsLocals h s l x (e.Address variable index_place index) = HoldsLocals h s l x index
+HoldsLocals h s l x (e.Referent place last local) = HomeCarries l x (home_of h.locals local) (typed UnsignedLong (slice_index_or s.locals local (pos 0)))
+HoldsLocals h s l x (e.Unary operator operand) = HoldsLocals h s l x operand
+HoldsLocals h s l x (e.Cast kind operand) = HoldsLocals h s l x operand
+HoldsLocals h s l x (e.Converted kind operand) = HoldsLocals h s l x operand
+HoldsLocals h s l x (e.Binary operator left right) = HoldsLocals h s l x left × HoldsLocals h s l x right
+HoldsLocals h s l x (e.Conditional kind condition chosen otherwise) = HoldsLocals h s l x condition × HoldsLocals h s l x chosen × HoldsLocals h s l x otherwise
 
 -- a load of an element gives its number modulo 2 to its width; the kind holds the number
 pub record IsLoaded (s : Source) (loads : (address bytes : ℕ) → Option ℕ) (k : Kind) (variable element : ℕ) : Type 0 where
@@ -144,7 +151,7 @@ pub record HasCodeThere (r : Environment) (code : List Instr) (m : LocalConfig) 
 -- the config at which code of the expression begins
 pub record IsEvaluationStart (h : Homes) (s : Source) (r : Environment) (x : e.Expr) (code : List Instr) (m : LocalConfig) : Type 0 where
   pub at : HasCodeThere r code m
-  pub locals : HoldsLocals h s m.registers x
+  pub locals : HoldsLocals h s r.loads m.registers x
 
 -- code leads to its end, by at most one step a word, with registers that have the property; all but those that may be written
 -- are as they were

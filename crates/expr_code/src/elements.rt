@@ -5,7 +5,9 @@ ghost use Rattle.ido_base.specs.declared.limits.TheConstants.{MOST_TEMPORARIES};
 ghost use Rattle.ido_ints.specs.Kinds.{bytes_of};
 ghost use Rattle.c_tree.specs.Exprs as e;
 ghost use Rattle.rv64_isa.specs.declared.instr.Instr.{Instr};
-ghost use Rattle.expr_code.specs.EvaluationCode.{Homes, EvaluatesTo, IsElementAddressCode, IsVariableAddressCode, impure_among};
+ghost use Rattle.ido_ints.specs.declared.kinds.Kind.{Kind};
+ghost use Rattle.expr_code.specs.declared.home.Home.TheVariants.{InFrame};
+ghost use Rattle.expr_code.specs.EvaluationCode.{Homes, EvaluatesTo, IsElementAddressCode, IsVariableAddressCode, home_of, impure_among};
 ghost use Rattle.expr_code.specs.links.OperandCode.{IsEvaluation, IsOperand, is_free};
 ghost use Rattle.expr_code.specs.links.ElementLoads.{loaded_by, places_of, HasUpper};
 
@@ -112,6 +114,21 @@ pub(crate) fn variable_code(
         IsEvaluation h (e.Variable place variable kind) held rd code.items) }
 {
     Ok(vec![in alloc; upper(address), load(kind, rd, address)]?)
+}
+
+/// The word of memory in which a local stands, into `rd`.
+pub(crate) fn framed_code(
+    alloc: Global,
+    address: u32,
+    rd: Register,
+) -> Result<Vec<Instr>, OutOfMemory>
+    requires { 0 < rd }
+    ensures short { IfOk result (λ code. length code.items ≡ 2) }
+    ensures pure { IfOk result (λ code. impure_among code.items ≡ 0) }
+    ensures code { IfOk result (λ code. (h : Homes) (local : ℕ) (kind : Kind) (held : ℕ) → home_of h.locals local ≡ InFrame address → address < 2 ^ 30 →
+        IsEvaluation h (e.Local local kind) held rd code.items) }
+{
+    Ok(vec![in alloc; upper(address), load(Kind::UnsignedLong, rd, address)]?)
 }
 
 /// The value of an element, into `rd`.

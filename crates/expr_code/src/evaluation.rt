@@ -15,7 +15,7 @@ use crate::elements::{element_code, variable_code};
 use crate::frame::Frame;
 use crate::operand::{Operand, TestCode};
 use crate::operators::{
-    constant_code, constant_form, converted, copied, held_operand, left_first, local_operand,
+    constant_code, constant_form, converted, held_operand, left_first, local_code, local_operand,
     one_less, one_more, right_first, with_binary, with_conversion, with_immediate, with_truth,
     with_unary,
 };
@@ -48,10 +48,7 @@ pub(crate) fn evaluate(
 {
     match expr {
         Expr::Constant { value } => Ok(constant_code(alloc, *value, rd)?),
-        Expr::Local { local, .. } => {
-            let local = local_operand(alloc, frame.locals[*local as usize]);
-            Ok(copied(local, rd)?)
-        }
+        Expr::Local { local, .. } => { Ok(local_code(alloc, frame.locals[*local as usize], rd)?) }
         Expr::Variable { variable, kind, .. } => {
             Ok(variable_code(alloc, frame.addresses[*variable as usize], *kind, rd)?)
         }
@@ -69,7 +66,7 @@ pub(crate) fn evaluate(
             Ok(with_immediate(index, one_more(), rd)?)
         }
         Expr::Referent { local, .. } => {
-            let local = local_operand(alloc, frame.locals[*local as usize]);
+            let local = local_operand(alloc, frame.locals[*local as usize], held)?;
             Ok(with_immediate(local, one_less(), rd)?)
         }
         Expr::Unary {
@@ -224,7 +221,10 @@ pub(crate) fn operand(
     ensures operand { IfOk result (λ x. IsOperand (homes_of frame.now) (expr_of expr.now) held x.register x.code.items) }
 {
     match expr {
-        Expr::Local { local, .. } => Ok(local_operand(alloc, frame.locals[*local as usize])),
+        Expr::Local { local, .. } => {
+            let local = local_operand(alloc, frame.locals[*local as usize], held)?;
+            Ok(local)
+        }
         _ => {
             let code = evaluate(alloc, expr, frame, temporary(held), held)?;
             Ok(held_operand(code, held))

@@ -9,15 +9,6 @@ use rv64_isa::field::Register;
 pub enum Home {
     /// In a register that is its own as long as the local is live.
     InRegister { register: Register },
-}
-
-impl Home {
-    /// The register in which the local stands.
-    pub fn register(self) -> Register
-        ensures { self ≡ InRegister result }
-    {
-        match self {
-            Home::InRegister { register } => register,
-        }
-    }
+    /// In a word at this address, in its register form.
+    InFrame { address: u32 },
 }

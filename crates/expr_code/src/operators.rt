@@ -9,9 +9,12 @@ ghost use Rattle.c_tree.specs.Elaboration.{kind_of};
 ghost use Rattle.operator_code.specs.declared.operation.BinaryOperation.{BinaryOperation};
 ghost use Rattle.rv64_isa.specs.declared.instr.Instr.{Instr};
 ghost use Rattle.operator_code.specs.ComputingCode.{is_strict, left_kind, right_kind};
+ghost use Rattle.memory_layout.specs.Roles.{is_local};
+ghost use Rattle.expr_code.specs.declared.home.Home.TheVariants.{InRegister};
 ghost use Rattle.expr_code.specs.EvaluationCode.{Homes, EvaluatesTo, home_of, is_home, impure_among};
 ghost use Rattle.expr_code.specs.links.OperandCode.{IsEvaluation, IsOperand, IsPair, IsMade, IsConstantForm, one, reference_operation, temporary, truth_of};
 
+use crate::elements::framed_code;
 use crate::home::Home;
 use crate::operand::{Operand, Pair};
 use crate::temporaries::temporary;
@@ -120,15 +123,47 @@ pub(crate) fn converted(
     Ok(Operand { code, register })
 }
 
-/// A local where it stands.
-pub(crate) fn local_operand(alloc: Global, home: Home) -> Operand
+/// A local in its register.
+fn standing(alloc: Global, register: Register) -> Operand
     ensures short { result.code.items ≡ [] }
-    ensures operand { (h : Homes) (local : ℕ) (kind : Kind) (held : ℕ) → home_of h.locals local ≡ home → is_home home ≡ true →
+    ensures register { result.register ≡ register }
+    ensures operand { (h : Homes) (local : ℕ) (kind : Kind) (held : ℕ) → home_of h.locals local ≡ InRegister register → is_local register ≡ true →
         IsOperand h (e.Local local kind) held result.register result.code.items }
 {
     Operand {
         code: Vec::new(alloc),
-        register: home.register(),
+        register,
+    }
+}
+
+/// A local where it stands, or in the next temporary where that is memory.
+pub(crate) fn local_operand(alloc: Global, home: Home, held: u32) -> Result<Operand, OutOfMemory>
+    requires { held < MOST_TEMPORARIES }
+    ensures short { IfOk result (λ x. length x.code.items ≤ 2) }
+    ensures pure { IfOk result (λ x. impure_among x.code.items ≡ 0) }
+    ensures operand { IfOk result (λ x. (h : Homes) (local : ℕ) (kind : Kind) → home_of h.locals local ≡ home → is_home home ≡ true →
+        IsOperand h (e.Local local kind) held x.register x.code.items) }
+{
+    match home {
+        Home::InRegister { register } => Ok(standing(alloc, register)),
+        Home::InFrame { address } => {
+            let code = framed_code(alloc, address, temporary(held))?;
+            Ok(held_operand(code, held))
+        }
+    }
+}
+
+/// A local into `rd`.
+pub(crate) fn local_code(alloc: Global, home: Home, rd: Register) -> Result<Vec<Instr>, OutOfMemory>
+    requires { 0 < rd }
+    ensures short { IfOk result (λ code. length code.items ≤ 2) }
+    ensures pure { IfOk result (λ code. impure_among code.items ≡ 0) }
+    ensures code { IfOk result (λ code. (h : Homes) (local : ℕ) (kind : Kind) (held : ℕ) → home_of h.locals local ≡ home → is_home home ≡ true →
+        IsEvaluation h (e.Local local kind) held rd code.items) }
+{
+    match home {
+        Home::InRegister { register } => Ok(copied(standing(alloc, register), rd)?),
+        Home::InFrame { address } => Ok(framed_code(alloc, address, rd)?),
     }
 }
 

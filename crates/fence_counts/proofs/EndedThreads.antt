@@ -67,13 +67,17 @@ module _ (g : Graph) where
           same_Some st.effect Ends (sym st.does ∙ ap (λ (a : Action). effect_of a (seen_by s st.graph_thread)) action)
     ]
 
+    -- it stood at an end then
+    pub ended_there : (moved st.graph_thread st.effect).ended ≡ true → st.node.action ≡ End
+    ended_there h = ends_at st.node.action (seen_by s st.graph_thread) (st.does ∙ ap (λ (z : Effect). Some z) (ends_by h))
+
     own_end : (moved st.graph_thread st.effect).ended ≡ true → IsEnd g (moved st.graph_thread st.effect).at
     own_end h =
         let ends = ends_by h in
         subst (λ (z : Effect). IsEnd g (moved st.graph_thread z).at) (sym ends) (record {
           is = st.node;
           at = st.at;
-          ends = ends_at st.node.action (seen_by s st.graph_thread) (st.does ∙ ap (λ (z : Effect). Some z) ends);
+          ends = ended_there h;
         })
 
     step_ends : EndAtEnds g next

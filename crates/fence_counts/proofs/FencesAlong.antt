@@ -15,7 +15,7 @@ use Rattle.log_states.specs.Stages.{fences_ahead}
 use Rattle.thread_runs.specs.Laws.{FragmentsGoOn}
 use Rattle.crash_simulation.specs.Systems.{System, IsSystem, thread_count}
 use Rattle.crash_simulation.specs.BoundaryFences.{fences_due, AreFencesCounted}
-use Rattle.crash_simulation.specs.InstructionSteps.{FragmentsStep, CoresStep}
+use Rattle.crash_simulation.specs.InstructionSteps.{FragmentsStep, CoresStep, LocalStoresStep}
 use Rattle.crash_simulation.specs.SimulationRelation.{Simulates}
 use Rattle.crash_simulation.proofs.Public.{GoesOn, event_goes_on, first_life, first_origin, has_begun, life_stands, phase_of, worlds_join}
 use Rattle.compiler_correctness.specs.Laws.{translation_of}
@@ -71,7 +71,8 @@ last_near finished stored crashes rest within near =
 
 -- ---- Along events
 
-module _ (fragments_step : FragmentsStep) (cores_step : CoresStep) (law : FragmentsGoOn) (y : System) (s : IsSystem y) (h : ℕ) (below : h < thread_count y)
+module _ (fragments_step : FragmentsStep) (cores_step : CoresStep) (local_stores_step : LocalStoresStep) (law : FragmentsGoOn) (y : System) (s : IsSystem y)
+    (h : ℕ) (below : h < thread_count y)
   where
     abbrev at : World → LifeConfig
     at w = record { runs = y.runs; kept_before = only_life []; ended_before = []; world = w }
@@ -97,7 +98,7 @@ module _ (fragments_step : FragmentsStep) (cores_step : CoresStep) (law : Fragme
     again one a x more b z c rest h = record { no_more = omega (arith, h.no_more); no_less = omega (arith, h.no_less) }
 
     abbrev then_goes : (event : Event) (w : World) (stands : Simulates y s w) → GoesOn y s w event stands
-    then_goes event w stands = event_goes_on fragments_step cores_step law y s w event stands
+    then_goes event w stands = event_goes_on fragments_step cores_step local_stores_step law y s w event stands
 
     abbrev finishes : World → Event → Bool
     finishes w event = finishes_fence y.runs.program w event h
@@ -215,5 +216,6 @@ module _ (fragments_step : FragmentsStep) (cores_step : CoresStep) (law : Fragme
         let none_due : fences_due 2 (all.stands.ghosts h).rest ≡ 0 = ap (fences_due 2) none in
         omega (arith, all.near.no_more, all.near.no_less, none_ahead, none_due, no_crashes life on)
 
-pub fences_follow_points : FragmentsStep → CoresStep → FragmentsGoOn → FencesFollowPoints
-fences_follow_points fragments_step cores_step law y s events h below = from_start fragments_step cores_step law y s h (omega (arith, below, s.count)) events
+pub fences_follow_points : FragmentsStep → CoresStep → LocalStoresStep → FragmentsGoOn → FencesFollowPoints
+fences_follow_points fragments_step cores_step local_stores_step law y s events h below =
+    from_start fragments_step cores_step local_stores_step law y s h (omega (arith, below, s.count)) events

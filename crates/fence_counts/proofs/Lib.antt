@@ -1,4 +1,7 @@
 mod UnbalancedLogs
 mod FencesAlong
 mod EndedThreads
+mod KeptEnds
+mod LoggedPassages
 mod PassagesAlong
+mod Worked

@@ -5,7 +5,8 @@ use Rattle.log_schemes.specs.declared.log.Log.{Log}
 use Rattle.rv64_isa.specs.Rows.{Effect}
 use Rattle.boundary_code.specs.Boundaries.{commit_effects}
 use Rattle.log_states.specs.Logs.{Record}
-use Rattle.log_states.specs.Stages.{LogConfig, LogIs, Stage, Writing, Written, Pointed, PointQueued, Over, stores_of, cleans_of, is_store, fences_ahead}
+use Rattle.log_states.specs.Stages.{LogConfig, LogIs, Stage, Writing, Written, Pointed, PointQueued, Over, stores_of, cleans_of, frame_cleans}
+use Rattle.log_states.specs.Stages.{is_store, fences_ahead}
 use Rattle.crash_simulation.specs.BoundaryFences.{boundary_fences, fences_due}
 
 -- what is ahead and what is due
@@ -33,29 +34,34 @@ some_store (e ∷ es) more some = ap (λ (b : Bool). is_store e || b) (some_stor
 -- ---- A boundary on its way
 
 module _ (log : Log) (thread : ℕ) (old new : Record) (m : LogConfig) where
-  abbrev whole : (slots lines : List ℕ) → List Effect
-  whole slots lines = stores_of log thread new slots ++ cleans_of log thread new lines ++ commit_effects log thread new.point
+  -- with stores and cleans before it
+  abbrev before : (slots lines framing : List ℕ) → List Effect
+  before slots lines framing = stores_of log thread new slots ++ cleans_of log thread new lines ++ frame_cleans log thread framing
 
-  whole_ahead : (slots lines : List ℕ) → fences_ahead (whole slots lines) ≡ 2
-  whole_ahead slots lines =
+  abbrev whole : (slots lines framing : List ℕ) → List Effect
+  whole slots lines framing = before slots lines framing ++ commit_effects log thread new.point
+
+  whole_ahead : (slots lines framing : List ℕ) → fences_ahead (whole slots lines framing) ≡ 2
+  whole_ahead slots lines framing =
       let stores : fences_ahead (stores_of log thread new slots) ≡ 0 = none_ahead _ (λ slot. refl) slots in
       let cleans : fences_ahead (cleans_of log thread new lines) ≡ 0 = none_ahead _ (λ line. refl) lines in
+      let frames : fences_ahead (frame_cleans log thread framing) ≡ 0 = none_ahead _ (λ line. refl) framing in
       let commit : fences_ahead (commit_effects log thread new.point) ≡ 2 = refl in
-      let both = ahead_append (stores_of log thread new slots ++ cleans_of log thread new lines) (commit_effects log thread new.point) in
+      let all = ahead_append (before slots lines framing) (commit_effects log thread new.point) in
+      let both = ahead_append (stores_of log thread new slots ++ cleans_of log thread new lines) (frame_cleans log thread framing) in
       let first = ahead_append (stores_of log thread new slots) (cleans_of log thread new lines) in
-      omega (arith, stores, cleans, commit, both, first)
+      omega (arith, stores, cleans, frames, commit, all, both, first)
 
-  whole_due : (slots lines : List ℕ) → fences_due (boundary_fences log) (whole slots lines) ≡ 2
-  whole_due slots lines =
-      ap (λ (b : Bool). if b then boundary_fences log else 0)
-      (some_store (stores_of log thread new slots ++ cleans_of log thread new lines) (commit_effects log thread new.point) refl)
+  whole_due : (slots lines framing : List ℕ) → fences_due (boundary_fences log) (whole slots lines framing) ≡ 2
+  whole_due slots lines framing =
+      ap (λ (b : Bool). if b then boundary_fences log else 0) (some_store (before slots lines framing) (commit_effects log thread new.point) refl)
 
   by_stage : Stage log thread old new m → AreWithinOne (boundary_fences log) m.rest
-  by_stage (Writing slots lines w recorded) =
-      let ahead : fences_ahead m.rest ≡ 2 = ap fences_ahead w.rest ∙ whole_ahead slots lines in
-      let due : fences_due (boundary_fences log) m.rest ≡ 2 = ap (fences_due (boundary_fences log)) w.rest ∙ whole_due slots lines in
+  by_stage (Writing slots lines framing w recorded) =
+      let ahead : fences_ahead m.rest ≡ 2 = ap fences_ahead w.rest ∙ whole_ahead slots lines framing in
+      let due : fences_due (boundary_fences log) m.rest ≡ 2 = ap (fences_due (boundary_fences log)) w.rest ∙ whole_due slots lines framing in
       (omega (arith, ahead, due), omega (arith, ahead, due))
-  by_stage (Written rest recorded bank) =
+  by_stage (Written rest recorded bank frame) =
       let ahead : fences_ahead m.rest ≡ 1 = ap fences_ahead rest in
       let due : fences_due (boundary_fences log) m.rest ≡ 2 = ap (fences_due (boundary_fences log)) rest in
       (omega (arith, ahead, due), omega (arith, ahead, due))

@@ -7,6 +7,9 @@ use Rattle.machine_model.specs.Executables.{first_world}
 use Rattle.machine_model.specs.Machine.{Hart}
 use Rattle.machine_model.specs.Schedule.{begins_life, only_life}
 use Rattle.machine_model.specs.declared.phase.Phase.TheVariants.{Ended}
+use Rattle.log_schemes.specs.Schemes.{locals_of}
+use Rattle.log_schemes.specs.declared.locals.Locals.{Locals}
+use Rattle.log_schemes.specs.declared.locals.Locals.TheVariants.{Registers, Frame}
 use Rattle.flow_graph.specs.Lowering.{lowered}
 use Rattle.flow_graph.specs.Actions.{FlowState}
 use Rattle.run_tracker.specs.ObjectLives.{LifeConfig, living}
@@ -15,6 +18,7 @@ use Rattle.crash_simulation.specs.BoundaryFences.{boundary_fences}
 use Rattle.crash_simulation.specs.BoundaryPassages.{graph_anew, passages}
 use Rattle.compiler_correctness.specs.Translations.{GoOn, Translation, source_at, steps, world}
 use Rattle.compiler_correctness.specs.Laws.{translation_of}
+use Rattle.fence_counts.specs.LoggedSteps.{steps_logged}
 
 -- how often power is lost
 abbrev pub crashes_in : List Event → ℕ
@@ -52,13 +56,19 @@ pub data BeginsLife (c : Translation) : List Event → Type 0 where
   first_begins : BeginsLife c []
   later_begins : (before : List Event) → begins_life (world c before) Start ≡ true → BeginsLife c (before ++ Start ∷ [])
 
--- where it begins: the source's graph at its start, with the variables that the lives before have left
+-- where it begins, the source's graph: at its start, with the variables that the lives before have left
 abbrev pub life_start : Translation → (before : List Event) → FlowState
 life_start c before = graph_anew c.flat (source_at c (steps c before).earlier).variables
 
--- how many boundaries the hart's thread passes by the steps that the life has begun: by its locks and unlocks, and at nodes before which one stands by choice
+-- how many boundaries the hart's thread passes by begun steps of the life: where its locals stand in registers, by its locks and unlocks, and at nodes before
+-- which one stands by choice; where they stand in its log, by each step that is logged by itself
+abbrev pub boundaries_passed_by : Locals → Translation → (before : List Event) → (begun : List ℕ) → (h : ℕ) → ℕ
+boundaries_passed_by Registers c before begun h = passages (lowered c.flat) c.boundaries (life_start c before) begun h
+boundaries_passed_by Frame c before begun h = steps_logged (source_at c (steps c before).earlier) begun h
+
+-- by all that the life has begun
 abbrev pub boundaries_passed : Translation → (before life : List Event) → (h : ℕ) → ℕ
-boundaries_passed c before life h = passages (lowered c.flat) c.boundaries (life_start c before) (steps c (before ++ life)).begun h
+boundaries_passed c before life h = boundaries_passed_by (locals_of c.runs.log) c before (steps c (before ++ life)).begun h
 
 -- by the events of a life, from where it begins on, the hart has stored the point of each boundary that its thread has passed, and finished just their fences
 pub record AreFencesOfLife (c : Translation) (before life : List Event) (h : ℕ) : Type 0 where

@@ -1,1 +1,2 @@
+pub mod LoggedSteps
 pub mod FenceCounts

@@ -7,10 +7,11 @@ mod Limits
 mod HeldNumbers
 mod MasksOfSets
 mod Plans
-mod Stores
 mod ResumeAddresses
+mod SpotsApart
 mod ResumeEntries
 mod ResumedNodes
 mod LiveLocals
+mod LoggedAssignments
 mod KnownSteps
 mod Tables

@@ -1,10 +1,10 @@
--- Live locals of a node, in the order of their registers.
-use Rattle.std.proofs.Common.{◌≡◌, ◌↔◌, inl, ⊎_elim, ℕ, zero, suc, ◌+◌, ◌<◌, ◌≤◌, List, [], ◌∷◌, ◌++◌, length, map, ◌∙◌, ap, ap₂, sym, subst, arith, Some}
+-- The locals on which a thread counts, in the order of their colours.
+use Rattle.std.proofs.Common.{◌≡◌, ◌≢◌, ◌↔◌, inl, ⊎_elim, ℕ, zero, suc, ◌+◌, ◌<◌, ◌≤◌, List, [], ◌∷◌, ◌++◌, length, map, ◌∙◌, ap, ap₂, sym, subst, arith, Some}
 use Rattle.std.proofs.Common.{Bool, ◌&&◌, Option, refl}
 use Rattle.std.specs.Prelude.{slice_get, slice_index, slice_index_or, Contains, is_some}
 use Rattle.std.specs.List.Sorted.{IsStrictlyIncreasing}
 use Rattle.std.proofs.lemmas.Bool.{cases_lt}
-use Rattle.std.proofs.lemmas.Option.{same_Some, slice_get_within}
+use Rattle.std.proofs.lemmas.Option.{same_Some, slice_get_within, get_or_from_slice_get}
 use Rattle.std.proofs.lemmas.List.Elements.{Contains-append_left, Contains-append_right, Contains-push_cases}
 use Rattle.std.specs.List.{AllZip}
 use Rattle.ido_ints.specs.declared.kinds.Kind.{Kind}
@@ -12,11 +12,13 @@ use Rattle.c_tree.specs.Flats as f
 use Rattle.c_tree.specs.NullReferences.{is_among}
 use Rattle.c_tree.specs.References.{IsLocalReferring, IsFlatThreadReferring}
 use Rattle.c_ranges.specs.KnownAtSteps.{thread_knowns}
-use Rattle.memory_layout.specs.declared.roles.TheConstants.{LOCALS}
+use Rattle.ido_base.specs.declared.limits.TheConstants.{LOCAL_REGISTERS}
 use Rattle.flow_graph.specs.Liveness.{IsLive, Spans, Touches}
 use Rattle.thread_code.specs.Plans.{Plan, IsPlan, Thread, IsThread, IsNodeOf, home_of_colour}
+use Rattle.recovered_threads.specs.RecordDescriptions.{CountsOn, NodePlace}
 use Rattle.flat_compile.specs.declared.resumes.LiveLocal.{LiveLocal}
-use Rattle.flat_compile.specs.ResumePlaces.{refers_in, knowns_before, is_known, IsLiveLocal}
+use Rattle.flat_compile.specs.declared.resumes.Counted.{Counted}
+use Rattle.flat_compile.specs.ResumePlaces.{colours_in, refers_in, knowns_before, is_known, IsLiveLocal}
 use Rattle.flat_compile.specs.links.ResumePlacesByNode.{Ascends, IsLiveIn, AreLiveBelow}
 use Rattle.flow_graph.proofs.Public.{all_at, found_in}
 use Rattle.rv64_codegen.proofs.Public.{colours_long}
@@ -24,7 +26,6 @@ use Rattle.flat_compile.proofs.ResumeAddresses.{head, tail}
 use Rattle.expr_code.specs.declared.home.Home.{Home}
 use Rattle.expr_code.specs.declared.home.Home.TheVariants.{InRegister}
 use Rattle.expr_code.specs.EvaluationCode.{home_of}
-use Rattle.expr_code.proofs.Public.{same_register}
 use Rattle.std.proofs.lemmas.List.{get_or-map}
 
 -- ---- Numbers that ascend
@@ -50,98 +51,66 @@ climbs f low (z ∷ xs) x h below l =
     let up = below z (head z xs) in
     (h.0, climbs f (suc (f z)) xs x h.1 (λ w k. below w (tail z xs w k)) (omega (arith, up)))
 
-locals_ascend : Ascends 8 LOCALS
-locals_ascend = (
-  omega arith,
-  (
-    omega arith,
-    (
-      omega arith,
-      (
-        omega arith,
-        (
-          omega arith,
-          (
-            omega arith,
-            (
-              omega arith,
-              (
-                omega arith,
-                (
-                  omega arith,
-                  (omega arith, (omega arith, (omega arith, (omega arith, (omega arith, (omega arith, (omega arith, (omega arith, (omega arith, tt))))))))),
-                ),
-              ),
-            ),
-          ),
-        ),
-      ),
-    ),
-  ),
-)
-
-registers_rise : (a b : ℕ) → a < b → b < 18 → slice_index LOCALS a < slice_index LOCALS b
-registers_rise a b up l = rise 8 LOCALS locals_ascend a b up l
-
 -- ---- One colour more
 
-abbrev made : (register local : ℕ) → Kind → Option ℕ → Bool → LiveLocal
-made register local kind refers known = record { register = register; local = local; kind = kind; refers = refers; known = known }
+abbrev made : (colour local : ℕ) → Kind → Option ℕ → Bool → LiveLocal
+made colour local kind refers known = record { colour = colour; local = local; kind = kind; refers = refers; known = known }
 
-same_local : (a b : LiveLocal) → a.register ≡ b.register → a.local ≡ b.local → a.kind ≡ b.kind → a.refers ≡ b.refers → a.known ≡ b.known → a ≡ b
-same_local a b r l k e n =
-    ap (λ (x : ℕ). made x a.local a.kind a.refers a.known) r ∙ ap (λ (x : ℕ). made b.register x a.kind a.refers a.known) l
-    ∙ ap (λ (x : Kind). made b.register b.local x a.refers a.known) k ∙ ap (λ (x : Option ℕ). made b.register b.local b.kind x a.known) e
-    ∙ ap (λ (x : Bool). made b.register b.local b.kind b.refers x) n
+pub same_local : (a b : LiveLocal) → a.colour ≡ b.colour → a.local ≡ b.local → a.kind ≡ b.kind → a.refers ≡ b.refers → a.known ≡ b.known → a ≡ b
+same_local a b c l k e n =
+    ap (λ (x : ℕ). made x a.local a.kind a.refers a.known) c ∙ ap (λ (x : ℕ). made b.colour x a.kind a.refers a.known) l
+    ∙ ap (λ (x : Kind). made b.colour b.local x a.refers a.known) k ∙ ap (λ (x : Option ℕ). made b.colour b.local b.kind x a.known) e
+    ∙ ap (λ (x : Bool). made b.colour b.local b.kind b.refers x) n
 
-module _ (colours : List ℕ) (text : f.Thread) (known : List ℕ) (sets : List (List ℕ)) (node : ℕ) where
+module _ (colours : List ℕ) (text : f.Thread) (known : List ℕ) (sets : List (List ℕ)) (counted : Counted) where
   abbrev Is : (count : ℕ) → List LiveLocal → Type 0
-  Is count found = AreLiveBelow colours text known sets node count found
+  Is count found = AreLiveBelow colours text known sets counted count found
 
   abbrev One : (count : ℕ) → LiveLocal → Type 0
-  One count l = (number : ℕ) × (number < count) × IsLiveIn colours sets node number l.local × (slice_get text.locals l.local ≡ Some l.kind)
-      × (l.register ≡ slice_index LOCALS number) × (slice_get text.refers l.local ≡ Some l.refers) × (l.known ≡ is_known known l)
+  One count l = (l.colour < count) × IsLiveIn colours sets counted l.colour l.local × (slice_get text.locals l.local ≡ Some l.kind)
+      × (slice_get text.refers l.local ≡ Some l.refers) × (l.known ≡ is_known known l)
 
   wider : (count : ℕ) (l : LiveLocal) → One count l → One (count + 1) l
-  wider count l w = (w.0, omega (arith, w.1), w.2, w.3, w.4, w.5, w.6)
+  wider count l w = (omega (arith, w.0), w.1, w.2, w.3, w.4)
 
-  pub live_same : (count : ℕ) (found : List LiveLocal) → ((local : ℕ) → IsLiveIn colours sets node count local → ⊥) → Is count found → Is (count + 1) found
+  pub live_same : (count : ℕ) (found : List LiveLocal) → ((local : ℕ) → IsLiveIn colours sets counted count local → ⊥) → Is count found →
+      Is (count + 1) found
   live_same count found none h = record {
     each = λ l. (
       λ k. wider count l ((h.each l).0 k),
-      λ w. ⊎_elim (λ less. (h.each l).1 (w.0, less, w.2, w.3, w.4, w.5, w.6))
-          (λ g. let same : w.0 ≡ count = omega (arith, g, w.1) in absurd (none l.local (subst (λ (n : ℕ). IsLiveIn colours sets node n l.local) same w.2)))
-          (cases_lt w.0 count),
+      λ w. ⊎_elim (λ less. (h.each l).1 (less, w.1, w.2, w.3, w.4))
+          (λ g.
+          let same : l.colour ≡ count = omega (arith, g, w.0) in
+          absurd (none l.local (subst (λ (n : ℕ). IsLiveIn colours sets counted n l.local) same w.1)))
+          (cases_lt l.colour count),
     );
     ascend = h.ascend;
   }
 
-  pub live_more : (count : ℕ) (found : List LiveLocal) (l : LiveLocal) → count < 18 → IsLiveIn colours sets node count l.local →
-      slice_get text.locals l.local ≡ Some l.kind → l.register ≡ slice_index LOCALS count → slice_get text.refers l.local ≡ Some l.refers →
-      l.known ≡ is_known known l →
-      ((a b : ℕ) → IsLiveIn colours sets node count a → IsLiveIn colours sets node count b → a ≡ b) → Is count found → Is (count + 1) (found ++ l ∷ [])
-  live_more count found l few live kind register refers knows apart h = record {
+  pub live_more : (count : ℕ) (found : List LiveLocal) (l : LiveLocal) → l.colour ≡ count → IsLiveIn colours sets counted count l.local →
+      slice_get text.locals l.local ≡ Some l.kind → slice_get text.refers l.local ≡ Some l.refers → l.known ≡ is_known known l →
+      ((a b : ℕ) → IsLiveIn colours sets counted count a → IsLiveIn colours sets counted count b → a ≡ b) → Is count found → Is (count + 1) (found ++ l ∷ [])
+  live_more count found l colour live kind refers knows apart h = record {
     each = λ z. (
-      λ k. ⊎_elim (λ old. wider count z ((h.each z).0 old))
-          (λ e. subst (λ (y : LiveLocal). One (count + 1) y) e (count, omega arith, live, kind, register, refers, knows))
-          (Contains-push_cases found l z k),
-      λ w. ⊎_elim (λ less. Contains-append_left found (l ∷ []) z ((h.each z).1 (w.0, less, w.2, w.3, w.4, w.5, w.6)))
-          (λ g. Contains-append_right found (l ∷ []) z (subst (λ (y : LiveLocal). Contains (l ∷ []) y) (only z w (omega (arith, g, w.1))) (head l [])))
-          (cases_lt w.0 count),
+      λ k. ⊎_elim (λ old. wider count z ((h.each z).0 old)) (λ e. subst (λ (y : LiveLocal). One (count + 1) y) e here) (Contains-push_cases found l z k),
+      λ w. ⊎_elim (λ less. Contains-append_left found (l ∷ []) z ((h.each z).1 (less, w.1, w.2, w.3, w.4)))
+          (λ g. Contains-append_right found (l ∷ []) z (subst (λ (y : LiveLocal). Contains (l ∷ []) y) (only z w (omega (arith, g, w.0))) (head l [])))
+          (cases_lt z.colour count),
     );
-    ascend = climbs (λ (y : LiveLocal). y.register) 0 found l h.ascend (λ z k. let w = (h.each z).0 k in
-        let up = registers_rise w.0 count w.1 few in omega (arith, up, w.4, register)) (omega arith);
+    ascend = climbs (λ (y : LiveLocal). y.colour) 0 found l h.ascend (λ z k. let w = (h.each z).0 k in omega (arith, w.0, colour)) (omega arith);
   }
     where
-      only : (z : LiveLocal) (w : One (count + 1) z) → w.0 ≡ count → l ≡ z
-      only z w same =
-          let there : l.local ≡ z.local = apart l.local z.local live (subst (λ (n : ℕ). IsLiveIn colours sets node n z.local) same w.2) in
-          let array : l.refers ≡ z.refers = same_Some l.refers z.refers (sym refers ∙ ap (slice_get text.refers) there ∙ w.5) in
-          same_local l z (register ∙ ap (slice_index LOCALS) (sym same) ∙ sym w.4) there
-          (same_Some l.kind z.kind (sym kind ∙ ap (slice_get text.locals) there ∙ w.3)) array
-          (knows ∙ ap₂ (λ (r : Option ℕ) (n : ℕ). is_some r && is_among known n) array there ∙ sym w.6)
+      here : One (count + 1) l
+      here = (omega (arith, colour), subst (λ (n : ℕ). IsLiveIn colours sets counted n l.local) (sym colour) live, kind, refers, knows)
 
--- ---- The locals of the registers are those that are live
+      only : (z : LiveLocal) (w : One (count + 1) z) → z.colour ≡ count → l ≡ z
+      only z w same =
+          let there : l.local ≡ z.local = apart l.local z.local live (subst (λ (n : ℕ). IsLiveIn colours sets counted n z.local) same w.1) in
+          let array : l.refers ≡ z.refers = same_Some l.refers z.refers (sym refers ∙ ap (slice_get text.refers) there ∙ w.3) in
+          same_local l z (colour ∙ sym same) there (same_Some l.kind z.kind (sym kind ∙ ap (slice_get text.locals) there ∙ w.2)) array
+          (knows ∙ ap₂ (λ (r : Option ℕ) (n : ℕ). is_some r && is_among known n) array there ∙ sym w.4)
+
+-- ---- They are those on which the thread counts
 
 index_of : (xs : List ℕ) (k x : ℕ) → slice_get xs k ≡ Some x → slice_index xs k ≡ x
 index_of [] k x g = cc
@@ -173,72 +142,93 @@ refers_long p plan t th =
     all_at (IsFlatThreadReferring p.flat) p.flat.threads t.number th.text plan.formed.referring.threads th.of_text in
     as_many th.text.locals th.text.refers form.locals
 
-module _ (p : Plan) (plan : IsPlan p) (t : Thread) (th : IsThread p t) (node : ℕ) (own : IsNodeOf t node) where
-  refers_are : refers_in p t ≡ th.text.refers
+module _ (p : Plan) (plan : IsPlan p) (t : Thread) (th : IsThread p t) where
+  pub refers_are : refers_in p t ≡ th.text.refers
   refers_are = refers_at p.flat.threads t.number th.text th.of_text
 
-  home_is : (local number : ℕ) → slice_get th.colours local ≡ Some number → home_of t.locals local ≡ home_of_colour number
-  home_is local number g =
-      ap (λ (hs : List Home). home_of hs local) th.locals
-      ∙ get_or-map home_of_colour th.colours local 0 (InRegister 0) (slice_get_within th.colours local number g)
-      ∙ ap home_of_colour (index_of th.colours local number g)
+  pub colours_are : colours_in p t ≡ th.colours
+  colours_are = get_or_from_slice_get p.colours t.number th.colours [] th.of_colours
 
-  coloured : (local : ℕ) (kind : Kind) → slice_get t.kinds local ≡ Some kind → (number : ℕ) × (slice_get th.colours local ≡ Some number)
+  -- a local's home is the one that its colour numbers
+  pub home_is : (local colour : ℕ) → slice_get (colours_in p t) local ≡ Some colour → home_of t.locals local ≡ home_of_colour p.log t.number colour
+  home_is local colour c =
+      let g : slice_get th.colours local ≡ Some colour = ap (λ (cs : List ℕ). slice_get cs local) (sym colours_are) ∙ c in
+      ap (λ (hs : List Home). home_of hs local) th.locals
+      ∙ get_or-map (home_of_colour p.log t.number) th.colours local 0 (InRegister 0) (slice_get_within th.colours local colour g)
+      ∙ ap (home_of_colour p.log t.number) (index_of th.colours local colour g)
+
+  -- a local of the text has a colour, of which there are few
+  pub coloured : (local : ℕ) (kind : Kind) → slice_get t.kinds local ≡ Some kind → (colour : ℕ) × (slice_get (colours_in p t) local ≡ Some colour)
   coloured local kind g =
       let short = slice_get_within t.kinds local kind g in
-      found_in th.colours local (omega (arith, short, ap (λ (ks : List Kind). length ks) th.kinds, colours_long p plan t th))
+      let there = found_in th.colours local (omega (arith, short, ap (λ (ks : List Kind). length ks) th.kinds, colours_long p plan t th)) in
+      (there.0, ap (λ (cs : List ℕ). slice_get cs local) colours_are ∙ there.1)
 
-  spans : (local : ℕ) → IsLive p.graph local node → Spans p.graph t.part local node
-  spans local live =
-      let touches : Touches p.graph t.part local node = record { from_first = own.from_first; below_end = own.below_end; is = inl live } in
-      record { low = node; high = node; from_low = omega arith; to_high = omega arith; at_low = touches; at_high = touches }
-
-  clash : (number a b : ℕ) → a < b → IsLiveIn th.colours p.live node number a → IsLiveIn th.colours p.live node number b → ⊥
-  clash number a b less x y = plan.apart node a b (record {
-    thread = t.number;
-    part = t.part;
-    own = th.nodes;
-    registers = th.colours;
-    register = number;
-    of_thread = th.of_colours;
-    of_first = x.coloured;
-    of_second = y.coloured;
-    different = less;
-    first = spans a ((plan.live.each node a).0 x.live);
-    second = spans b ((plan.live.each node b).0 y.live);
-  })
-
-  pub one_each : (number a b : ℕ) → IsLiveIn th.colours p.live node number a → IsLiveIn th.colours p.live node number b → a ≡ b
-  one_each number a b x y = ⊎_elim (λ l. absurd (clash number a b l x y))
-      (λ g. ⊎_elim (λ l. absurd (clash number b a l y x)) (λ h. let e : a ≡ b = omega (arith, g, h) in e) (cases_lt b a))
-      (cases_lt a b)
-
-  pub all_live : (found : List LiveLocal) → AreLiveBelow th.colours th.text (knowns_before p t node) p.live node 18 found → (l : LiveLocal) →
-      Contains found l ↔ IsLiveLocal p t node l
-  all_live found h l = (
-    λ k.
-        let w = (h.each l).0 k in
-        record {
-          kind_is = ap (λ (ks : List Kind). slice_get ks l.local) th.kinds ∙ w.3;
-          refers_is = ap (λ (rs : List (Option ℕ)). slice_get rs l.local) refers_are ∙ w.5;
-          known_is = w.6;
-          live = (plan.live.each node l.local).0 w.2.live;
-          home_is = home_is l.local w.0 w.2.coloured ∙ ap InRegister (sym w.4);
-        },
-    λ is.
-        let number = coloured l.local l.kind is.kind_is in
-        (h.each l).1 (
-          number.0,
-          plan.registers.exist t.number number.0 th.colours th.of_colours (contained th.colours l.local number.0 number.1),
-          record { coloured = number.1; live = (plan.live.each node l.local).1 is.live },
-          ap (λ (ks : List Kind). slice_get ks l.local) (sym th.kinds) ∙ is.kind_is,
-          same_register l.register (slice_index LOCALS number.0) (sym is.home_is ∙ home_is l.local number.0 number.1),
-          ap (λ (rs : List (Option ℕ)). slice_get rs l.local) (sym refers_are) ∙ is.refers_is,
-          is.known_is,
-        ),
-  )
+  pub few_colours : (local colour : ℕ) → slice_get (colours_in p t) local ≡ Some colour → colour < LOCAL_REGISTERS
+  few_colours local colour c =
+      plan.registers.exist t.number colour th.colours th.of_colours
+      (contained th.colours local colour (ap (λ (cs : List ℕ). slice_get cs local) (sym colours_are) ∙ c))
     where
       contained : (xs : List ℕ) (k x : ℕ) → slice_get xs k ≡ Some x → Contains xs x
       contained [] k x g = cc
       contained (y ∷ xs) zero x g = let same : y ≡ x = cc in subst (λ (z : ℕ). Contains (y ∷ xs) z) same (head y xs)
       contained (y ∷ xs) (suc k) x g = tail y xs x (contained xs k x g)
+
+  -- ---- No two that are live at a node have one colour
+
+  module _ (counted : Counted) (own : IsNodeOf t counted.node) where
+    spans : (local : ℕ) → IsLive p.graph local counted.node → Spans p.graph t.part local counted.node
+    spans local live =
+        let touches : Touches p.graph t.part local counted.node =
+        record { from_first = own.from_first; below_end = own.below_end; is = inl live } in
+        record { low = counted.node; high = counted.node; from_low = omega arith; to_high = omega arith; at_low = touches; at_high = touches }
+
+    clash : (colour a b : ℕ) → a < b → IsLiveIn th.colours p.live counted colour a → IsLiveIn th.colours p.live counted colour b → ⊥
+    clash colour a b less x y = plan.apart counted.node a b (record {
+      thread = t.number;
+      part = t.part;
+      own = th.nodes;
+      registers = th.colours;
+      register = colour;
+      of_thread = th.of_colours;
+      of_first = x.coloured;
+      of_second = y.coloured;
+      different = less;
+      first = spans a ((plan.live.each counted.node a).0 x.counts.live);
+      second = spans b ((plan.live.each counted.node b).0 y.counts.live);
+    })
+
+    pub one_each : (colour a b : ℕ) → IsLiveIn th.colours p.live counted colour a → IsLiveIn th.colours p.live counted colour b → a ≡ b
+    one_each colour a b x y = ⊎_elim (λ l. absurd (clash colour a b l x y))
+        (λ g. ⊎_elim (λ l. absurd (clash colour b a l y x)) (λ h. let e : a ≡ b = omega (arith, g, h) in e) (cases_lt b a))
+        (cases_lt a b)
+
+  -- ---- All of them
+
+  module _ (node : ℕ) (place : NodePlace) (counted : Counted)
+      (are : (local : ℕ) → (IsLive p.graph local counted.node × (counted.without ≢ Some local)) ↔ CountsOn p t node place local) where
+    pub all_live : (found : List LiveLocal) → AreLiveBelow th.colours th.text (knowns_before p t node) p.live counted 18 found → (l : LiveLocal) →
+        Contains found l ↔ IsLiveLocal p t node place l
+    all_live found h l = (
+      λ k.
+          let w = (h.each l).0 k in
+          record {
+            kind_is = ap (λ (ks : List Kind). slice_get ks l.local) th.kinds ∙ w.2;
+            refers_is = ap (λ (rs : List (Option ℕ)). slice_get rs l.local) refers_are ∙ w.3;
+            known_is = w.4;
+            counted = (are l.local).0 ((plan.live.each counted.node l.local).0 w.1.counts.live, w.1.counts.other);
+            coloured = ap (λ (cs : List ℕ). slice_get cs l.local) colours_are ∙ w.1.coloured;
+          },
+      λ is.
+          let on = (are l.local).1 is.counted in
+          (h.each l).1 (
+            few_colours l.local l.colour is.coloured,
+            record {
+              coloured = ap (λ (cs : List ℕ). slice_get cs l.local) (sym colours_are) ∙ is.coloured;
+              counts = record { live = (plan.live.each counted.node l.local).1 on.0; other = on.1 };
+            },
+            ap (λ (ks : List Kind). slice_get ks l.local) (sym th.kinds) ∙ is.kind_is,
+            ap (λ (rs : List (Option ℕ)). slice_get rs l.local) (sym refers_are) ∙ is.refers_is,
+            is.known_is,
+          ),
+    )

@@ -6,7 +6,7 @@ use Rattle.std.specs.List.{AllByRecursion}
 use Rattle.std.specs.Global.{Global}
 use Rattle.std.proofs.lemmas.List.{length-map}
 use Rattle.std.proofs.lemmas.List.Elements.{All-head, All-tail, recursion_from_All}
-use Rattle.std.proofs.lemmas.Option.{none-some, same_Some, slice_get_within}
+use Rattle.std.proofs.lemmas.Option.{get_or_from_slice_get, none-some, same_Some, slice_get_within}
 use Rattle.log_schemes.specs.declared.log.Log.{Log}
 use Rattle.log_schemes.specs.declared.keeping.Keeping.{Keeping}
 use Rattle.log_schemes.specs.declared.keeping.Keeping.TheVariants.{Masked, Listed}
@@ -31,24 +31,31 @@ use Rattle.rv64_link.specs.LinkedCode.{AreLinked}
 use Rattle.rv64_link.specs.links.Threads.{items_in}
 use Rattle.c_tree.specs.WellFormed.{ArePlain, initial_numbers, shape_of}
 use Rattle.memory_layout.specs.Variables.{AreInitial}
-use Rattle.log_schemes.specs.Schemes.{HaveRoom, HasRoom, keeping_of}
+use Rattle.log_schemes.specs.Schemes.{HaveRoom, HasRoom, keeping_of, locals_of}
+use Rattle.log_schemes.specs.declared.locals.Locals.{Locals}
+use Rattle.log_schemes.specs.declared.locals.Locals.TheVariants.{Registers, Frame}
 use Rattle.lock_discipline.specs.Discipline.{WalkIsDiscipline}
 use Rattle.lock_discipline.specs.HeldSetsByStep.{AreAllSetsOf, AreSetsOf, HeldBefore, HoldsFew}
 use Rattle.lock_discipline.specs.NamedForms.{HasNames}
 use Rattle.flow_graph.specs.declared.cuts.Cuts.{Cuts}
-use Rattle.flow_graph.specs.Liveness.{IsLive}
+use Rattle.flow_graph.specs.Liveness.{AreAssignedFirst, IsLive}
 use Rattle.flow_graph.specs.Lowering.{lowered}
 use Rattle.flow_graph.specs.Nodes.{Graph, graph_of}
 use Rattle.flow_graph.specs.Colours.{colouring_of}
-use Rattle.flow_graph.specs.IdempotentCuts.{AreCuts, IsMinimal, boundaries_of, AreAtWrites}
-use Rattle.region_cutter.specs.FewestCuts.{AreFewestCuts}
+use Rattle.flow_graph.specs.IdempotentCuts.{AreCuts, boundaries_of, AreAtWrites}
+use Rattle.region_cutter.specs.EachWrite.{AreAtEachWrite, AreSetsOfThreads, AssignsLocked, gives, writes, assigns}
+use Rattle.region_cutter.specs.LocksAtBoundaries.{IsHeldAt}
+use Rattle.region_cutter.proofs.Public.{assigned_stands, sets_of_threads}
 use Rattle.flow_graph.proofs.Public.{all_at, found_in}
 use Rattle.flat_analysis.specs.declared.analyses.Analysis.{Analysis}
 use Rattle.flat_analysis.specs.Analyses.{IsAnalysis}
 use Rattle.flat_analysis.specs.CompilableForms.{IsAcceptedForm}
 use Rattle.flat_analysis.proofs.Public.{held_keys_are_live}
-use Rattle.thread_code.specs.Plans.{Plan, IsPlan, Thread, IsThread, IsNodeOf, names_in, set_before, language_kept, language_of}
-use Rattle.thread_code.proofs.Public.{names_are}
+use Rattle.thread_code.specs.Plans.{Plan, AreAtRecords, IsLoggedAt, IsPlan, Thread, IsThread, IsNodeOf, held_names_before, home_of_colour, names_in, set_before}
+use Rattle.thread_code.specs.Plans.{language_kept, language_of}
+use Rattle.thread_code.proofs.Public.{names_are, nothing_held}
+use Rattle.lock_discipline.proofs.Public.{held_length}
+use Rattle.flat_compile.proofs.HeldNumbers.{count_none}
 use Rattle.rv64_codegen.specs.StoreCleans.{AllCleanAtOnce}
 use Rattle.rv64_codegen.specs.ThreadPieces.{IsCode}
 use Rattle.std.proofs.Common.{ap, None, Some}
@@ -60,12 +67,13 @@ use Rattle.code_runs.specs.CodeTraces.{Program}
 use Rattle.recovered_threads.specs.RecordDescriptions.{Codes}
 use Rattle.crash_simulation.specs.Systems.{System, IsSystem}
 use Rattle.flat_compile.specs.declared.resumes.Resume.{Resume}
-use Rattle.flat_compile.specs.ResumePlaces.{AreMarksOf, AreMarked, IsResumeTable}
+use Rattle.flat_compile.specs.ResumePlaces.{AreMarksOf, AreMarked, AreSpaced, IsResumeTable}
 use Rattle.flat_compile.specs.TranslatedForms.{IsTranslatedAs, IsResumableAs}
+use Rattle.region_cutter.specs.BoundaryPlaces.{AreBoundariesFor}
 use Rattle.flat_compile.proofs.LinkedThreads.{AllFew, marked_count}
 use Rattle.flat_compile.proofs.Limits.{count, within_limits}
 use Rattle.flat_compile.proofs.MasksOfSets.{of_mask}
-use Rattle.flat_compile.proofs.Systems.{LinkedCode, system, system_is}
+use Rattle.flat_compile.proofs.Systems.{LinkedCode, codes_spaced, system, system_is}
 
 -- ---- What was found out of a flat form, and the cuts of its graph
 
@@ -177,15 +185,142 @@ keys_live log a cuts is t of node own name local x there held reads =
     let at : t.part.first + step ≡ node = (let from = own.from_first in omega (arith, from)) in
     subst (λ (g : Graph). IsLive g local node) (sym is.lowered) (subst (λ (m : ℕ). IsLive (lowered flat) local m) at live)
 
+-- ---- Where boundaries stand
+
+-- the sets that are held are those of the graph's threads
+pub sets_of : (log : Log) (a : Analysis) → IsAnalysis (language_of log) a → AreSetsOfThreads (graph_of a.graph) a.held
+sets_of log a is =
+    subst (λ (g : Graph). AreSetsOfThreads g a.held) (sym is.lowered)
+    (sets_of_threads (language_of log) (flat_of a.flat.now) a.held is.accepted.formed is.accepted.priced is.held)
+
+at_registers : (log : Log) (a : Analysis) (cuts : Cuts) → locals_of log ≡ Registers → AreAtWrites (graph_of a.graph) (boundaries_of cuts) →
+    AreAtRecords (plan_at log a cuts)
+at_registers log a cuts registers places = record {
+  after = places.after;
+  before = λ n has. elim (places.before n has) [ inl unlock ↦ inl unlock | inr w ↦ inr (inl w) ];
+  stores = λ frame n w. absurd (never frame);
+  assignments = λ n it. absurd (never it.logged.frame);
+  before_count = places.before_count;
+  after_count = places.after_count;
+}
+  where
+    never : locals_of log ≡ Frame → ⊥
+    never frame = let both : Registers ≡ Frame = sym registers ∙ frame in let no : ⊥ = cc in no
+
+-- a node that assigns a local while a lock is held is a logged assignment of one of the plan's threads
+logged_at : (log : Log) (a : Analysis) (cuts : Cuts) → IsAnalysis (language_of log) a → locals_of log ≡ Frame → (node : ℕ) →
+    AssignsLocked (graph_of a.graph) a.held node → IsLoggedAt (plan_at log a cuts) node
+logged_at log a cuts is frame node w = record {
+  thread = thread;
+  of = of;
+  own = record {
+    from_first = omega (arith, held.is);
+    below_end =
+        let has = (sets_of log a is).sets w.before.thread held.part held.own in
+        let row : has.sets ≡ held.sets = same_Some has.sets held.sets (sym has.row ∙ held.row) in
+        let below = slice_get_within held.sets w.before.step w.before.held held.before in
+        omega (arith, held.is, has.each, ap (λ (s : List Held). length s) row, below);
+  };
+  logged = record {
+    local = w.local;
+    assigns = record { is = w.is; at = w.at; place = w.place; kind = w.kind; assigned = w.value; next = w.next; action = w.assigns };
+    frame = frame;
+    holds = λ none. w.locked (count_none 0 w.before.held (nothing_held 0 names w.before.held long (sym named ∙ none)));
+  };
+}
+  where
+    p : Plan
+    p = plan_at log a cuts
+
+    held : IsHeldAt (graph_of a.graph) a.held w.before.thread w.before.step node w.before.held
+    held = w.before.at
+
+    text : (text : f.Thread) × (slice_get (flat_of a.flat.now).threads w.before.thread ≡ Some text)
+    text =
+        let low = slice_get_within a.held w.before.thread held.sets held.row in
+        found_in (flat_of a.flat.now).threads w.before.thread (omega (arith, low, is.held.each_thread))
+
+    colours : (own : List ℕ) × (slice_get (colouring_of a.colours) w.before.thread ≡ Some own)
+    colours =
+        let low = slice_get_within (graph_of a.graph).threads w.before.thread held.part held.own in
+        found_in (colouring_of a.colours) w.before.thread (omega (arith, low, is.registers.threads))
+
+    thread : Thread
+    thread = record {
+      number = w.before.thread;
+      part = held.part;
+      kinds = text.0.locals;
+      locals = map (home_of_colour log w.before.thread) colours.0;
+    }
+
+    of : IsThread (plan_at log a cuts) thread
+    of = record {
+      nodes = held.own;
+      text = text.0;
+      of_text = text.1;
+      kinds = refl;
+      colours = colours.0;
+      of_colours = colours.1;
+      locals = refl;
+    }
+
+    names : List LockName
+    names = names_in (plan_at log a cuts) thread
+
+    long : length w.before.held ≡ length names
+    long =
+        let sets = is.held.sets w.before.thread text.0 held.sets text.1 held.row in
+        held_length (flat_of a.flat.now) text.0 w.before.step w.before.held ((sets.exactly w.before.step w.before.held).0 held.before)
+        ∙ ap (λ (ns : List LockName). length ns) (sym (names_are (plan_at log a cuts) thread of))
+
+    named : held_names_before (plan_at log a cuts) thread node ≡ held_names names w.before.held
+    named =
+        let step : node - held.part.first ≡ w.before.step = omega (arith, held.is) in
+        ap (λ (h : Held). held_names names h)
+        (ap (λ (n : ℕ). slice_index_or (slice_index_or a.held w.before.thread []) n []) step
+        ∙ ap (λ (s : List Held). slice_index_or s w.before.step []) (get_or_from_slice_get a.held w.before.thread held.sets [] held.row)
+        ∙ get_or_from_slice_get held.sets w.before.step w.before.held [] held.before)
+
+at_frames : (log : Log) (a : Analysis) (cuts : Cuts) → IsAnalysis (language_of log) a → locals_of log ≡ Frame →
+    AreAtEachWrite (graph_of a.graph) a.held (boundaries_of cuts) → AreAtRecords (plan_at log a cuts)
+at_frames log a cuts is frame all = record {
+  after = λ n stands. (all.after n).0 stands;
+  before = λ n has. elim ((all.before n).0 has) [
+    | gives unlock ↦ inl unlock
+    | writes w ↦ inr (inl w)
+    | assigns w ↦ inr (inr (logged_at log a cuts is frame n w))
+  ];
+  stores = λ _ n w. (all.before n).1 (writes w);
+  assignments = λ n it.
+      let w = it.logged.assigns in
+      assigned_stands (graph_of a.graph) a.held (boundaries_of cuts) (sets_of log a is) all it.thread.number n it.thread.part w.is w.place it.logged.local
+      w.kind w.assigned w.next it.of.nodes it.own.from_first it.own.below_end w.at w.action (names_in (plan_at log a cuts) it.thread) it.logged.holds;
+  before_count = all.before_count;
+  after_count = all.after_count;
+}
+
+records_as : (l : Locals) (log : Log) (a : Analysis) (cuts : Cuts) → locals_of log ≡ l → IsAnalysis (language_of log) a →
+    AreBoundariesFor l (graph_of a.graph) a.held (boundaries_of cuts) → (locals_of log ≡ Registers → AreAtWrites (graph_of a.graph) (boundaries_of cuts)) →
+    AreAtRecords (plan_at log a cuts)
+records_as Registers log a cuts locals is placed places = at_registers log a cuts locals (places locals)
+records_as Frame log a cuts locals is placed places = at_frames log a cuts is locals placed
+
+pub at_records : (log : Log) (a : Analysis) (cuts : Cuts) → IsAnalysis (language_of log) a →
+    AreBoundariesFor (locals_of log) (graph_of a.graph) a.held (boundaries_of cuts) →
+    (locals_of log ≡ Registers → AreAtWrites (graph_of a.graph) (boundaries_of cuts)) → AreAtRecords (plan_at log a cuts)
+at_records log a cuts is placed places = records_as (locals_of log) log a cuts refl is placed places
+
 pub plan_is : WalkIsDiscipline → (log : Log) (a : Analysis) (cuts : Cuts) → IsAnalysis (language_of log) a →
-    AreCuts (graph_of a.graph) (boundaries_of cuts) → AreAtWrites (graph_of a.graph) (boundaries_of cuts) → IsPlan (plan_at log a cuts)
-plan_is law log a cuts is chosen places = record {
+    (locals_of log ≡ Frame → AreAssignedFirst (graph_of a.graph)) → AreCuts (graph_of a.graph) (boundaries_of cuts) → AreAtRecords (plan_at log a cuts) →
+    IsPlan (plan_at log a cuts)
+plan_is law log a cuts is first chosen places = record {
   formed = is.accepted.formed;
   lowered = is.lowered;
   cuts = chosen;
   at_writes = places;
   held = is.held;
   live = is.live;
+  assigned_first = first;
   keys_live = keys_live log a cuts is;
   registers = is.registers;
   apart = is.apart;
@@ -219,8 +354,7 @@ few_at (first ∷ threads) few (suc n) items there = few_at threads (All-tail Is
 pub record LinkedPlan (p : Plan) (object : Object) (marks : Marks) (cuts : Cuts) : Type 0 where
   pub plan : IsPlan p
   pub at : p.boundaries ≡ boundaries_of cuts
-  pub minimal : IsMinimal p.graph (boundaries_of cuts)
-  pub fewest : AreFewestCuts p.graph (boundaries_of cuts)
+  pub placed : AreBoundariesFor (locals_of p.log) p.graph p.held (boundaries_of cuts)
   pub code : Code
   pub is : IsCodeFor p code
   pub linked : AreLinked code_base (map items_in code.threads.items) (program_of object) marks.threads.items
@@ -228,11 +362,13 @@ pub record LinkedPlan (p : Plan) (object : Object) (marks : Marks) (cuts : Cuts)
   pub mutexes : object.mutexes ≡ code.mutexes
   pub log : object.log ≡ code.log
 
-marks_of : (y : System) (s : IsSystem y) → length y.runs.resumes ≡ length y.plan.graph.threads → AreMarksOf y.plan s.codes y.runs.resumes
-marks_of y s long = record {
+marks_of : (y : System) (s : IsSystem y) → length y.runs.resumes ≡ length y.plan.graph.threads → AreSpaced y.plan s.codes →
+    AreMarksOf y.plan s.codes y.runs.resumes
+marks_of y s long spaced = record {
   count = long;
   each = λ n below.
       ap (λ (x : Program). x.resumes) (s.own n below).program ∙ ap (λ (m : ℕ). slice_index_or y.runs.resumes m []) (s.codes.number n below);
+  spaced = spaced;
 }
 
 module _ {p : Plan} {object : Object} {marks : Marks} {cuts : Cuts} (l : LinkedPlan p object marks cuts) where
@@ -265,8 +401,7 @@ module _ {p : Plan} {object : Object} {marks : Marks} {cuts : Cuts} (l : LinkedP
     is = system_is plan linked_code;
     of_flat = refl;
     at_cuts = l.at;
-    minimal = subst (λ (g : Graph). IsMinimal g (boundaries_of cuts)) plan.lowered l.minimal;
-    fewest = subst (λ (g : Graph). AreFewestCuts g (boundaries_of cuts)) plan.lowered l.fewest;
+    placed = subst (λ (g : Graph). AreBoundariesFor (locals_of p.log) g p.held (boundaries_of cuts)) plan.lowered l.placed;
     runs = refl;
     log = sym logs;
     items = threads;
@@ -285,10 +420,13 @@ module _ {p : Plan} {object : Object} {marks : Marks} {cuts : Cuts} (l : LinkedP
 
   pub marked : AreMarked p (resume_marks marks.threads.items)
   unfolding is_translated
-  marked = record { codes = is_translated.is.codes; are = marks_of is_translated.system is_translated.is resumes_long }
+  marked = record { codes = is_translated.is.codes; are = marks_of is_translated.system is_translated.is resumes_long (codes_spaced plan linked_code) }
 
   pub resumable : (table : List (Vec Resume Global)) →
       ((codes : Codes p) → AreMarksOf p codes (resume_marks marks.threads.items) → IsResumeTable p codes table) →
       IsResumableAs p.log p.flat object marks cuts table
   unfolding is_translated
-  resumable table h = record { translated = is_translated; are = h is_translated.is.codes (marks_of is_translated.system is_translated.is resumes_long) }
+  resumable table h = record {
+    translated = is_translated;
+    are = h is_translated.is.codes (marks_of is_translated.system is_translated.is resumes_long (codes_spaced plan linked_code));
+  }

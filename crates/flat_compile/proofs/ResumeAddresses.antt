@@ -3,8 +3,7 @@ use Rattle.std.proofs.Common.{◌≡◌, ◌≢◌, ⊎_elim, refl, ℕ, zero, s
 use Rattle.c_tree.specs.Exprs.{LockName}
 use Rattle.std.proofs.Common.{Some, None, Bool, true, false}
 use Rattle.std.proofs.Common.{Option, ◌++◌}
-use Rattle.std.specs.Option.{option_to_list}
-use Rattle.std.specs.Prelude.{slice_get, slice_index, Contains}
+use Rattle.std.specs.Prelude.{slice_index, Contains}
 use Rattle.std.proofs.lemmas.List.Elements.{Contains-append_left, Contains-append_right, Contains-push_cases}
 use Rattle.std.specs.List.Sorted.{IsStrictlyIncreasing}
 use Rattle.std.proofs.lemmas.Bool.{cases_lt}
@@ -12,23 +11,21 @@ use Rattle.std.proofs.lemmas.Option.{same_Some}
 use Rattle.flow_graph.specs.Nodes.{Action, Eval, Store, Test, Lock, Unlock, End, Node}
 use Rattle.flow_graph.specs.IdempotentCuts.{IsChosen}
 use Rattle.flow_graph.specs.Liveness.{NodeAt}
-use Rattle.flow_graph.specs.Lowering.{threads_nodes}
 use Rattle.code_runs.specs.CodeTraces.{Program}
 use Rattle.thread_code.specs.Plans.{Plan, IsPlan, Thread, IsThread, IsNodeOf, held_names_before, set_before, names_in}
 use Rattle.thread_code.specs.NodeCodeEffects.{Places}
 use Rattle.thread_code.specs.Programs.{IsThreadCode, IsCallWithin, IsResumeAddress}
 use Rattle.thread_code.specs.Programs as places
 use Rattle.thread_code.proofs.Public.{nothing_held, nothing_named}
-use Rattle.rv64_codegen.specs.links.LiveRegisters.{is_store}
 use Rattle.rv64_codegen.proofs.Public.{set_long}
 use Rattle.c_tree.specs.LockNames.{count_held}
 use Rattle.flat_compile.proofs.HeldNumbers.{count_none, none_counted}
-use Rattle.flat_compile.proofs.Stores.{is_eval, store_after}
 use Rattle.flat_compile.proofs.Systems.{node_there}
 use Rattle.rv64_codegen.proofs.Public as sound
-use Rattle.rv64_codegen.proofs.Public.{chosen_stores, IsStoring, nodes_are, sound_node}
+use Rattle.rv64_codegen.proofs.Public.{sound_node}
 use Rattle.flat_compile.specs.ResumePlaces.{Spot, Before, After, node_in, address_in, goes_on_at, IsSpot, at_chosen, past_lock, past_unlock}
-use Rattle.flat_compile.specs.links.ResumePlacesByNode.{rank, Ascends, AreSpotsBelow, AreNodesBelow, IsPastCall, IsBefore}
+use Rattle.flat_compile.specs.declared.resumes.Stand.{Stand}
+use Rattle.flat_compile.specs.links.ResumePlacesByNode.{rank, stand_in, stands_at, Ascends, AreSpotsBelow, AreStandsBelow, IsPastCall, IsBefore}
 
 -- ---- A rising list is known by its members
 
@@ -80,13 +77,17 @@ same_members low (x ∷ xs) (y ∷ ys) h k to back =
 
 -- ---- Addresses of places
 
-stores : (p : Plan) (plan : IsPlan p) (a : Action) → IsStoring p plan a → is_store a ≡ true
-stores p plan (Eval target value next) h = absurd h
-stores p plan (Store variable kind next) h = refl
-stores p plan (Test condition holds fails) h = absurd h
-stores p plan (Lock lock next) h = absurd h
-stores p plan (Unlock lock next) h = absurd h
-stores p plan End h = absurd h
+-- where the thread may be resumed
+module _ (p : Plan) (t : Thread) (c : Places) where
+  pub resumed : (s : Spot) → IsSpot p t s → IsResumeAddress p t c (address_in c s)
+  resumed s (at_chosen node own chosen) = places.at_chosen node own chosen
+  resumed s (past_lock node lock next is own at does) = places.past_lock node lock next is own at does
+  resumed s (past_unlock node lock next is own at does some) = places.past_unlock node lock next is own at does some
+
+  spot_of : (x : ℕ) → IsResumeAddress p t c x → (s : Spot) × IsSpot p t s × (address_in c s ≡ x)
+  spot_of x (places.at_chosen node own chosen) = (Before node, at_chosen node own chosen, refl)
+  spot_of x (places.past_lock node lock next is own at does) = (After node next, past_lock node lock next is own at does, refl)
+  spot_of x (places.past_unlock node lock next is own at does some) = (After node next, past_unlock node lock next is own at does some, refl)
 
 module _ (p : Plan) (plan : IsPlan p) (t : Thread) where
   abbrev AreSpots : List Spot → Type 0
@@ -98,24 +99,11 @@ module _ (p : Plan) (plan : IsPlan p) (t : Thread) where
   own_of s (past_lock node lock next is own at does) = own
   own_of s (past_unlock node lock next is own at does some) = own
 
-  -- a chosen boundary stands before a store, and that after its evaluation
-  apart : (n next m : ℕ) → m ≡ suc n → IsSpot p t (After n next) → IsSpot p t (Before m) → (is : Node) → NodeAt p.graph m is → ⊥
-  apart n next m same a (at_chosen node own chosen) is at = by a
-    where
-      stored : is_store is.action ≡ true
-      stored = stores p plan is.action (chosen_stores p plan m is at chosen)
+  chosen_at : (m : ℕ) → IsSpot p t (Before m) → IsChosen p.graph p.boundaries m
+  chosen_at m (at_chosen node own chosen) = chosen
 
-      there : (k : ℕ) (x : Node) → NodeAt p.graph k x → slice_get (threads_nodes p.flat p.flat.threads 0) k ≡ Some x
-      there k x h = ap (λ (ns : List Node). slice_get ns k) (sym (nodes_are p plan)) ∙ h
-
-      eval : (x : Node) → NodeAt p.graph n x → is_eval x.action ≡ true
-      eval x h = store_after p.flat n x is (there n x h) (ap (slice_get (threads_nodes p.flat p.flat.threads 0)) (sym same) ∙ there m is at) stored
-
-      by : IsSpot p t (After n next) → ⊥
-      by (past_lock node lock to x own h does) = let no : false ≡ true = sym (ap is_eval does) ∙ eval x h in cc
-      by (past_unlock node lock to x own h does some) = let no : false ≡ true = sym (ap is_eval does) ∙ eval x h in cc
-
-  module _ (th : IsThread p t) (program : Program) (code : IsThreadCode p t program) where
+  module _ (th : IsThread p t) (program : Program) (code : IsThreadCode p t program)
+      (spaced : (node : ℕ) → IsNodeOf t node → IsChosen p.graph p.boundaries node → code.places.entry node < code.places.core node) where
     abbrev c : Places
     c = code.places
 
@@ -188,8 +176,8 @@ module _ (p : Plan) (plan : IsPlan p) (t : Thread) where
         let u = own_of (Before m) b in
         ⊎_elim (λ l. omega (arith, (after_within n x a).1, far n m l o u, (within m u).0))
         (λ g.
-        let is = node_there p plan t th m u in
-        absurd (apart n x m (omega (arith, g, h)) a b is.0 is.1))
+        let same : n + 1 ≡ m = omega (arith, g, h) in
+        omega (arith, (after_within n x a).1, ap c.entry same, spaced m u (chosen_at m b)))
         (cases_lt (n + 1) m)
 
     ascending : (low : ℕ) (a : Spot) (rest : List Spot) → low ≤ address_in c a → IsSpot p t a → AreSpots rest →
@@ -223,16 +211,6 @@ module _ (p : Plan) (plan : IsPlan p) (t : Thread) where
         let r = mapped spots s (j, omega (arith, below), is) in
         tail (address_in c z) (map (address_in c) spots) (address_in c s) r
 
-    pub resumed : (s : Spot) → IsSpot p t s → IsResumeAddress p t c (address_in c s)
-    resumed s (at_chosen node own chosen) = places.at_chosen node own chosen
-    resumed s (past_lock node lock next is own at does) = places.past_lock node lock next is own at does
-    resumed s (past_unlock node lock next is own at does some) = places.past_unlock node lock next is own at does some
-
-    spot_of : (x : ℕ) → IsResumeAddress p t c x → (s : Spot) × IsSpot p t s × (address_in c s ≡ x)
-    spot_of x (places.at_chosen node own chosen) = (Before node, at_chosen node own chosen, refl)
-    spot_of x (places.past_lock node lock next is own at does) = (After node next, past_lock node lock next is own at does, refl)
-    spot_of x (places.past_unlock node lock next is own at does some) = (After node next, past_unlock node lock next is own at does some, refl)
-
     low_rank : (s : Spot) (to : ℕ) → node_in s < to → rank s < 2 * to
     low_rank (Before node) to h = omega (arith, h)
     low_rank (After node next) to h = omega (arith, h)
@@ -243,9 +221,9 @@ module _ (p : Plan) (plan : IsPlan p) (t : Thread) where
         (ascends 0 program.resumes code.ascending (λ x rest e. omega arith))
         (λ x k.
         let s = found spots x k in
-        subst (λ (n : ℕ). Contains program.resumes n) s.2 ((code.resumes (address_in c s.0)).1 (resumed s.0 (are.each s.0 s.1).0)))
+        subst (λ (n : ℕ). Contains program.resumes n) s.2 ((code.resumes (address_in c s.0)).1 (resumed p t c s.0 (are.each s.0 s.1).0)))
         (λ x k.
-        let s = spot_of x ((code.resumes x).0 k) in
+        let s = spot_of p t c x ((code.resumes x).0 k) in
         subst (λ (n : ℕ). Contains (map (address_in c) spots) n) s.2
         (mapped spots s.0 (are.all s.0 s.1 (low_rank s.0 t.part.end (own_of s.0 s.1).below_end))))
 
@@ -325,13 +303,13 @@ module _ (p : Plan) (t : Thread) where
       let up = below z (head z spots) in
       (h.0, climb (suc (rank z)) spots s h.1 (λ w k. below w (tail z spots w k)) (omega (arith, up)))
 
-  goes : (spots : List Spot) (s : Spot) → map goes_on_at (spots ++ s ∷ []) ≡ map goes_on_at spots ++ goes_on_at s ∷ []
+  goes : (spots : List Spot) (s : Spot) → map stand_in (spots ++ s ∷ []) ≡ map stand_in spots ++ stand_in s ∷ []
   goes [] s = refl
-  goes (z ∷ spots) s = ap (λ (ns : List ℕ). goes_on_at z ∷ ns) (goes spots s)
+  goes (z ∷ spots) s = ap (λ (ns : List Stand). stand_in z ∷ ns) (goes spots s)
 
-  none_more : (bound : ℕ) (nodes : List ℕ) → AreNodesBelow p t bound nodes → ((s : Spot) → IsSpot p t s → rank s ≡ bound → ⊥) →
-      AreNodesBelow p t (suc bound) nodes
-  none_more bound nodes h none = record {
+  none_more : (bound : ℕ) (stands : List Stand) → AreStandsBelow p t bound stands → ((s : Spot) → IsSpot p t s → rank s ≡ bound → ⊥) →
+      AreStandsBelow p t (suc bound) stands
+  none_more bound stands h none = record {
     spots = h.spots;
     are = record {
       each = λ s k. (let e = h.are.each s k in (e.0, omega (arith, e.1)));
@@ -341,9 +319,9 @@ module _ (p : Plan) (t : Thread) where
     goes_on = h.goes_on;
   }
 
-  one_more : (bound : ℕ) (nodes : List ℕ) (s : Spot) → AreNodesBelow p t bound nodes → IsSpot p t s → rank s ≡ bound →
-      ((z : Spot) → IsSpot p t z → rank z ≡ bound → s ≡ z) → AreNodesBelow p t (suc bound) (nodes ++ goes_on_at s ∷ [])
-  one_more bound nodes s h is at only = record {
+  one_more : (bound : ℕ) (stands : List Stand) (s : Spot) → AreStandsBelow p t bound stands → IsSpot p t s → rank s ≡ bound →
+      ((z : Spot) → IsSpot p t z → rank z ≡ bound → s ≡ z) → AreStandsBelow p t (suc bound) (stands ++ stand_in s ∷ [])
+  one_more bound stands s h is at only = record {
     spots = h.spots ++ s ∷ [];
     are = record {
       each = λ z k. ⊎_elim (λ l. (let e = h.are.each z l in (e.0, omega (arith, e.1))))
@@ -354,7 +332,7 @@ module _ (p : Plan) (t : Thread) where
           (cases_lt (rank z) bound);
       ascend = climb 0 h.spots s h.are.ascend (λ z k. let e = (h.are.each z k).1 in omega (arith, e, at)) (omega arith);
     };
-    goes_on = goes h.spots s ∙ ap (λ (ns : List ℕ). ns ++ goes_on_at s ∷ []) h.goes_on;
+    goes_on = goes h.spots s ∙ ap (λ (ns : List Stand). ns ++ stand_in s ∷ []) h.goes_on;
   }
 
   -- a place of even rank is before a node, one of odd rank after it
@@ -366,39 +344,37 @@ module _ (p : Plan) (t : Thread) where
   odd (Before n) node e = absurd (omega (arith, e))
   odd (After n next) node e = let same : n ≡ node = omega (arith, e) in (next, ap (λ (k : ℕ). After k next) same)
 
-  pub before_more : (node : ℕ) (nodes : List ℕ) (o : Option ℕ) → AreNodesBelow p t (2 * node) nodes → IsBefore p t node o →
-      AreNodesBelow p t (2 * node + 1) (nodes ++ option_to_list o)
-  before_more node nodes None h b =
+  append_nil : (ns : List Stand) → ns ++ [] ≡ ns
+  append_nil [] = refl
+  append_nil (n ∷ ns) = ap (λ (z : List Stand). n ∷ z) (append_nil ns)
+
+  pub before_more : (node : ℕ) (stands : List Stand) (o : Option ℕ) → AreStandsBelow p t (2 * node) stands → IsBefore p t node o →
+      AreStandsBelow p t (2 * node + 1) (stands ++ stands_at true o)
+  before_more node stands None h b =
       let same : suc (2 * node) ≡ 2 * node + 1 = omega arith in
-      subst (λ (k : ℕ). AreNodesBelow p t k (nodes ++ [])) same (subst (λ (ns : List ℕ). AreNodesBelow p t (suc (2 * node)) ns) (sym (append_nil nodes))
-      (none_more (2 * node) nodes h (λ s is e. let no : None ≡ Some node = (b node).1 (refl, subst (λ (z : Spot). IsSpot p t z) (even s node e) is) in cc)))
-    where
-      append_nil : (ns : List ℕ) → ns ++ [] ≡ ns
-      append_nil [] = refl
-      append_nil (n ∷ ns) = ap (λ (z : List ℕ). n ∷ z) (append_nil ns)
-  before_more node nodes (Some n) h b =
+      subst (λ (k : ℕ). AreStandsBelow p t k (stands ++ [])) same
+      (subst (λ (ns : List Stand). AreStandsBelow p t (suc (2 * node)) ns) (sym (append_nil stands))
+      (none_more (2 * node) stands h (λ s is e. let no : None ≡ Some node = (b node).1 (refl, subst (λ (z : Spot). IsSpot p t z) (even s node e) is) in cc)))
+  before_more node stands (Some n) h b =
       let same : suc (2 * node) ≡ 2 * node + 1 = omega arith in
       let is = (b n).0 refl in
-      subst (λ (k : ℕ). AreNodesBelow p t k (nodes ++ n ∷ [])) same
-      (subst (λ (k : ℕ). AreNodesBelow p t (suc (2 * node)) (nodes ++ k ∷ [])) (sym is.0)
-      (one_more (2 * node) nodes (Before node) h is.1 refl (λ z there e. sym (even z node e))))
+      subst (λ (k : ℕ). AreStandsBelow p t k (stands ++ stand_in (Before n) ∷ [])) same
+      (subst (λ (k : ℕ). AreStandsBelow p t (suc (2 * node)) (stands ++ stand_in (Before k) ∷ [])) (sym is.0)
+      (one_more (2 * node) stands (Before node) h is.1 refl (λ z there e. sym (even z node e))))
 
-  pub after_more : (node : ℕ) (nodes : List ℕ) (o : Option ℕ) → AreNodesBelow p t (2 * node + 1) nodes → IsPastCall p t node o →
-      AreNodesBelow p t (2 * (node + 1)) (nodes ++ option_to_list o)
-  after_more node nodes None h b =
+  pub after_more : (node : ℕ) (stands : List Stand) (o : Option ℕ) → AreStandsBelow p t (2 * node + 1) stands → IsPastCall p t node o →
+      AreStandsBelow p t (2 * (node + 1)) (stands ++ stands_at false o)
+  after_more node stands None h b =
       let same : suc (2 * node + 1) ≡ 2 * (node + 1) = omega arith in
-      subst (λ (k : ℕ). AreNodesBelow p t k (nodes ++ [])) same (subst (λ (ns : List ℕ). AreNodesBelow p t (suc (2 * node + 1)) ns) (sym (append_nil nodes))
-      (none_more (2 * node + 1) nodes h (λ s is e.
+      subst (λ (k : ℕ). AreStandsBelow p t k (stands ++ [])) same
+      (subst (λ (ns : List Stand). AreStandsBelow p t (suc (2 * node + 1)) ns) (sym (append_nil stands))
+      (none_more (2 * node + 1) stands h (λ s is e.
       let w = odd s node e in
       let no : None ≡ Some w.0 = (b w.0).1 (subst (λ (z : Spot). IsSpot p t z) w.1 is) in cc)))
-    where
-      append_nil : (ns : List ℕ) → ns ++ [] ≡ ns
-      append_nil [] = refl
-      append_nil (n ∷ ns) = ap (λ (z : List ℕ). n ∷ z) (append_nil ns)
-  after_more node nodes (Some n) h b =
+  after_more node stands (Some n) h b =
       let same : suc (2 * node + 1) ≡ 2 * (node + 1) = omega arith in
-      subst (λ (k : ℕ). AreNodesBelow p t k (nodes ++ n ∷ [])) same
-      (one_more (2 * node + 1) nodes (After node n) h ((b n).0 refl) refl (λ z there e.
+      subst (λ (k : ℕ). AreStandsBelow p t k (stands ++ stand_in (After node n) ∷ [])) same
+      (one_more (2 * node + 1) stands (After node n) h ((b n).0 refl) refl (λ z there e.
       let w = odd z node e in
       let both : Some n ≡ Some w.0 = (b w.0).1 (subst (λ (y : Spot). IsSpot p t y) w.1 there) in
       let one : n ≡ w.0 = cc in ap (λ (k : ℕ). After node k) one ∙ sym w.1))
@@ -409,7 +385,7 @@ module _ (p : Plan) (t : Thread) where
   from_first s (past_unlock node lock next is own at does some) = own.from_first
 
   -- before the thread's first node there is none
-  pub begun : AreNodesBelow p t (2 * t.part.first) []
+  pub begun : AreStandsBelow p t (2 * t.part.first) []
   begun = record {
     spots = [];
     are = record {
@@ -424,10 +400,10 @@ module _ (p : Plan) (t : Thread) where
       no (Before n) is below = let o = from_first (Before n) is in omega (arith, o, below)
       no (After n next) is below = let o = from_first (After n next) is in omega (arith, o, below)
 
-  abbrev IsFormedIn : IsPlan p → IsThread p t → Action → Type 0
+  abbrev pub IsFormedIn : IsPlan p → IsThread p t → Action → Type 0
   IsFormedIn plan th a = sound.IsFormed p.flat th.text.locals t.part.first t.part.end plan.formed.shared.variables a
 
-  formed_as : (plan : IsPlan p) (th : IsThread p t) (a b : Action) → a ≡ b → IsFormedIn plan th a → IsFormedIn plan th b
+  pub formed_as : (plan : IsPlan p) (th : IsThread p t) (a b : Action) → a ≡ b → IsFormedIn plan th a → IsFormedIn plan th b
   formed_as plan th a b same h = subst (λ (x : Action). IsFormedIn plan th x) same h
 
   -- a place is where the thread goes on at one of its nodes

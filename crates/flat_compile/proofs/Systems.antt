@@ -24,12 +24,12 @@ use Rattle.flow_graph.proofs.Public.{found_in, lowered_nodes, lowered_threads, l
 use Rattle.hart_runs.specs.Laws.{program_at}
 use Rattle.code_runs.specs.CodeTraces.{Program}
 use Rattle.thread_code.specs.Plans.{Plan, IsPlan, Thread, IsThread, IsNodeOf, home_of_colour}
-use Rattle.thread_code.specs.Programs.{IsThreadCode}
 use Rattle.recovered_threads.specs.RecordDescriptions.{Codes}
-use Rattle.rv64_codegen.specs.ThreadPieces.{IsCode}
+use Rattle.rv64_codegen.specs.ThreadPieces.{IsCode, IsSpacedCode}
 use Rattle.crash_simulation.specs.Systems.{System, IsSystem}
 use Rattle.flat_compile.proofs.LinkedThreads.{AllFew, LinkedAt, linked_at, linked_count}
-use Rattle.flat_compile.proofs.CleanFlags.{recleaned, recleaned_later}
+use Rattle.flat_compile.specs.ResumePlaces.{AreSpaced}
+use Rattle.flat_compile.proofs.CleanFlags.{recleaned, recleaned_later, recleaned_spaced}
 use Rattle.flat_compile.proofs.OmittedCleanList.{LeftOut, left_out}
 
 parts_count : (ts : List f.Thread) (first : ℕ) → length (parts ts first) ≡ length ts
@@ -56,7 +56,7 @@ module _ (p : Plan) (plan : IsPlan p) (n : ℕ) (below : n < length p.graph.thre
     number = n;
     part = found_part.0;
     kinds = found_text.0.locals;
-    locals = map home_of_colour found_colours.0;
+    locals = map (home_of_colour p.log n) found_colours.0;
   }
 
   is_thread : IsThread p thread_at
@@ -141,7 +141,7 @@ module _ {p : Plan} (plan : IsPlan p) (code : LinkedCode p) where
       let count = coded.count in
       omega (arith, within, below, count, few_threads)
 
-  first_code : (n : ℕ) (below : n < length p.graph.threads) → IsThreadCode p (thread_at p plan n below) (thread_program n)
+  first_code : (n : ℕ) (below : n < length p.graph.threads) → IsSpacedCode p (thread_at p plan n below) (thread_program n)
   first_code n below =
       let t = thread_at p plan n below in
       let items = items_at n below in
@@ -153,10 +153,14 @@ module _ {p : Plan} (plan : IsPlan p) (code : LinkedCode p) where
       thread = thread_at p plan n below;
       of = is_thread p plan n below;
       program = thread_program n;
-      is = recleaned p (thread_at p plan n below) (thread_program n) (first_code n below);
+      is = recleaned p (thread_at p plan n below) (thread_program n) (first_code n below).is;
     };
     number = λ n below. refl;
   }
+
+  spaced : AreSpaced p codes
+  unfolding codes
+  spaced n below = recleaned_spaced p (thread_at p plan n below) (thread_program n) (first_code n below).is (first_code n below).spaced
 
   abbrev pub out : LeftOut p plan codes
   out = left_out p plan codes
@@ -174,7 +178,7 @@ module _ {p : Plan} (plan : IsPlan p) (code : LinkedCode p) where
   cleans n below node own h =
       let t = thread_at p plan n below in
       let is = node_there p plan t (is_thread p plan n below) node own in
-      (out.each node).1 (recleaned_later p t (thread_program n) (first_code n below) node is.0 own is.1 h)
+      (out.each node).1 (recleaned_later p t (thread_program n) (first_code n below).is node is.0 own is.1 h)
 
   pub system_is : IsSystem system
   unfolding codes
@@ -190,3 +194,7 @@ module _ {p : Plan} (plan : IsPlan p) (code : LinkedCode p) where
     left_out = λ node e.
         subst (λ (g : Graph). IsCleanedLater g p.boundaries (map shape_of p.flat.variables) node) plan.lowered ((out.each node).0 e);
   }
+
+  pub codes_spaced : AreSpaced p system_is.codes
+  unfolding system_is
+  codes_spaced = spaced

@@ -22,9 +22,12 @@ use Rattle.code_runs.specs.CodeTraces.{Program}
 use Rattle.thread_code.specs.Plans.{Plan, IsPlan, Thread, IsThread, IsNodeOf, home_of_colour}
 use Rattle.thread_code.specs.Programs.{IsThreadCode}
 use Rattle.flat_compile.specs.declared.resumes.Resume.{Resume}
-use Rattle.flat_compile.specs.ResumePlaces.{goes_on_at, address_in, IsFound, AreResumes}
-use Rattle.flat_compile.specs.links.ResumePlacesByNode.{thread_in, IsOwn, AreNodesBelow, AreFoundAt}
+use Rattle.flat_compile.specs.declared.resumes.Stand.{Stand}
+use Rattle.flow_graph.specs.IdempotentCuts.{IsChosen}
+use Rattle.flat_compile.specs.ResumePlaces.{Spot, Before, After, goes_on_at, place_at, place_in, address_in, IsFound, AreResumes}
+use Rattle.flat_compile.specs.links.ResumePlacesByNode.{thread_in, stand_in, stand_of, IsOwn, AreStandsBelow, AreFoundAt}
 use Rattle.flat_compile.proofs.ResumeAddresses.{order, goes_on_own, head, tail}
+use Rattle.flat_compile.proofs.SpotsApart.{spots_apart}
 use Rattle.expr_code.specs.declared.home.Home.{Home}
 
 contained : {X : Type 0} (xs : List X) (k : ℕ) (x : X) → slice_get xs k ≡ Some x → Contains xs x
@@ -33,10 +36,10 @@ contained (y ∷ xs) zero x g = let same : y ≡ x = cc in subst (λ z. Contains
 contained (y ∷ xs) (suc k) x g = tail y xs x (contained xs k x g)
 
 -- two lists that are mapped to one, at a number
-both_at : {X Y : Type 0} (f : X → ℕ) (g : Y → ℕ) (xs : List X) (ys : List Y) → map f xs ≡ map g ys → (k : ℕ) (x : X) (y : Y) →
+both_at : {X Y Z : Type 0} (f : X → Z) (g : Y → Z) (xs : List X) (ys : List Y) → map f xs ≡ map g ys → (k : ℕ) (x : X) (y : Y) →
     slice_get xs k ≡ Some x → slice_get ys k ≡ Some y → f x ≡ g y
 both_at f g xs ys same k x y a b =
-    same_Some (f x) (g y) (sym (slice_get-map f xs k ∙ ap (option_map f) a) ∙ ap (λ (zs : List ℕ). slice_get zs k) same
+    same_Some (f x) (g y) (sym (slice_get-map f xs k ∙ ap (option_map f) a) ∙ ap (λ zs. slice_get zs k) same
     ∙ slice_get-map g ys k ∙ ap (option_map g) b)
 
 -- ---- The thread of a number
@@ -69,7 +72,7 @@ own_thread p plan n part g below =
         kinds = kinds_at p.flat.threads n text.0 text.1;
         colours = colours.0;
         of_colours = colours.1;
-        locals = ap (λ (cs : List ℕ). map home_of_colour cs) (list_at p.colours n colours.0 colours.1);
+        locals = ap (λ (cs : List ℕ). map (home_of_colour p.log n) cs) (list_at p.colours n colours.0 colours.1);
       };
     }
 
@@ -80,73 +83,86 @@ pub same_thread : (p : Plan) (t : Thread) → IsThread p t → (part : Part) →
 same_thread p t th part g =
     let k : slice_index_or (map (λ (x : f.Thread). x.locals) p.flat.threads) t.number [] ≡ t.kinds =
     kinds_at p.flat.threads t.number th.text th.of_text ∙ sym th.kinds in
-    let h : map home_of_colour (slice_index_or p.colours t.number []) ≡ t.locals =
-    ap (λ (cs : List ℕ). map home_of_colour cs) (list_at p.colours t.number th.colours th.of_colours) ∙ sym th.locals in
+    let h : map (home_of_colour p.log t.number) (slice_index_or p.colours t.number []) ≡ t.locals =
+    ap (λ (cs : List ℕ). map (home_of_colour p.log t.number) cs) (list_at p.colours t.number th.colours th.of_colours) ∙ sym th.locals in
     let q : part ≡ t.part = same_Some part t.part (sym g ∙ th.nodes) in
     ap (λ (x : Part). made t.number x (slice_index_or (map (λ (x : f.Thread). x.locals) p.flat.threads) t.number [])
-    (map home_of_colour (slice_index_or p.colours t.number []))) q
-    ∙ ap (λ (x : List Kind). made t.number t.part x (map home_of_colour (slice_index_or p.colours t.number []))) k
+    (map (home_of_colour p.log t.number) (slice_index_or p.colours t.number []))) q
+    ∙ ap (λ (x : List Kind). made t.number t.part x (map (home_of_colour p.log t.number) (slice_index_or p.colours t.number []))) k
     ∙ ap (λ (x : List Home). made t.number t.part t.kinds x) h
 
 -- ---- Its resumes
 
+stand_node : (s : Spot) → (stand_in s).node ≡ goes_on_at s
+stand_node (Before node) = refl
+stand_node (After node next) = refl
+
+stand_place : (s : Spot) → place_at (stand_in s).at_core ≡ place_in s
+stand_place (Before node) = refl
+stand_place (After node next) = refl
+
 module _ (p : Plan) (plan : IsPlan p) (t : Thread) (th : IsThread p t) where
-  pub nodes_own : (nodes : List ℕ) (bound : ℕ) → AreNodesBelow p t bound nodes → (k node : ℕ) → slice_get nodes k ≡ Some node → IsNodeOf t node
-  nodes_own nodes bound h k node g =
-      let mapped : slice_get (map goes_on_at h.spots) k ≡ Some node = ap (λ (ns : List ℕ). slice_get ns k) h.goes_on ∙ g in
-      let below = slice_get_within (map goes_on_at h.spots) k node mapped in
-      let s = found_in h.spots k (omega (arith, below, length-map h.spots goes_on_at)) in
-      let same = same_Some (goes_on_at s.0) node (sym (slice_get-map goes_on_at h.spots k ∙ ap (option_map goes_on_at) s.1) ∙ mapped) in
-      subst (λ (n : ℕ). IsNodeOf t n) same (goes_on_own p t plan th s.0 (h.are.each s.0 (contained h.spots k s.0 s.1)).0)
+  pub stands_own : (stands : List Stand) (bound : ℕ) → AreStandsBelow p t bound stands → (k : ℕ) (stand : Stand) → slice_get stands k ≡ Some stand →
+      IsNodeOf t stand.node
+  stands_own stands bound h k stand g =
+      let mapped : slice_get (map stand_in h.spots) k ≡ Some stand = ap (λ (ns : List Stand). slice_get ns k) h.goes_on ∙ g in
+      let below = slice_get_within (map stand_in h.spots) k stand mapped in
+      let s = found_in h.spots k (omega (arith, below, length-map h.spots stand_in)) in
+      let same = same_Some (stand_in s.0) stand (sym (slice_get-map stand_in h.spots k ∙ ap (option_map stand_in) s.1) ∙ mapped) in
+      subst (λ (n : ℕ). IsNodeOf t n) (sym (stand_node s.0) ∙ ap (λ (z : Stand). z.node) same)
+      (goes_on_own p t plan th s.0 (h.are.each s.0 (contained h.spots k s.0 s.1)).0)
 
-  module _ (program : Program) (code : IsThreadCode p t program) (nodes : List ℕ) (h : AreNodesBelow p t (2 * t.part.end) nodes) where
-    pub as_many : length nodes ≡ length program.resumes
+  module _ (program : Program) (code : IsThreadCode p t program)
+      (spaced : (node : ℕ) → IsNodeOf t node → IsChosen p.graph p.boundaries node → code.places.entry node < code.places.core node)
+      (stands : List Stand) (h : AreStandsBelow p t (2 * t.part.end) stands) where
+    pub as_many : length stands ≡ length program.resumes
     as_many =
-        ap (λ (ns : List ℕ). length ns) (sym h.goes_on) ∙ length-map h.spots goes_on_at ∙ sym (length-map h.spots (address_in code.places))
-        ∙ ap (λ (ns : List ℕ). length ns) (order p plan t th program code h.spots h.are)
+        ap (λ (ns : List Stand). length ns) (sym h.goes_on) ∙ length-map h.spots stand_in ∙ sym (length-map h.spots (address_in code.places))
+        ∙ ap (λ (ns : List ℕ). length ns) (order p plan t th program code spaced h.spots h.are)
 
-    pub resumes_are : (rs : List Resume) → AreFoundAt p t nodes program.resumes rs → AreResumes p t program code rs
+    pub resumes_are : (rs : List Resume) → AreFoundAt p t stands program.resumes rs → AreResumes p t program code rs
     resumes_are rs found = record {
       addresses = found.addresses_are;
+      apart = spots_apart p t plan th program code spaced;
       each = λ k r g.
           let short = slice_get_within rs k r g in
-          let many = ap (λ (ns : List ℕ). length ns) (h.goes_on ∙ sym found.nodes_are) in
-          let s = found_in h.spots k (omega (arith, short, many, length-map h.spots goes_on_at, length-map rs (λ (x : Resume). x.node))) in
+          let many = ap (λ (ns : List Stand). length ns) (h.goes_on ∙ sym found.stands_are) in
+          let s = found_in h.spots k (omega (arith, short, many, length-map h.spots stand_in, length-map rs stand_of)) in
+          let stand : stand_in s.0 ≡ stand_of r = both_at stand_in stand_of h.spots rs (h.goes_on ∙ sym found.stands_are) k s.0 r s.1 g in
           record {
             spot = s.0;
             is = (h.are.each s.0 (contained h.spots k s.0 s.1)).0;
             at = both_at (address_in code.places) (λ (x : Resume). x.address) h.spots rs
-                (order p plan t th program code h.spots h.are ∙ sym found.addresses_are) k s.0 r s.1 g;
-            goes_on = both_at goes_on_at (λ (x : Resume). x.node) h.spots rs (h.goes_on ∙ sym found.nodes_are) k s.0 r s.1 g;
+                (order p plan t th program code spaced h.spots h.are ∙ sym found.addresses_are) k s.0 r s.1 g;
+            goes_on = sym (stand_node s.0) ∙ ap (λ (z : Stand). z.node) stand;
+            stands = sym (stand_place s.0) ∙ ap (λ (z : Stand). place_at z.at_core) stand;
             found = found.each k r g;
           };
     }
 
   -- by the thread of its number
-  pub resumes_in : (part : Part) → slice_get p.graph.threads t.number ≡ Some part → (program : Program) (code : IsThreadCode p t program) (nodes : List ℕ) →
-      AreNodesBelow p (thread_in p t.number part) (2 * part.end) nodes → (rs : List Resume) →
-      AreFoundAt p (thread_in p t.number part) nodes program.resumes rs → AreResumes p t program code rs
-  resumes_in part g program code nodes h rs found =
-      let same = same_thread p t th part g in
-      let end : part.end ≡ t.part.end = ap (λ (x : Part). x.end) (same_Some part t.part (sym g ∙ th.nodes)) in
-      let below : AreNodesBelow p t (2 * t.part.end) nodes =
-      subst (λ (n : ℕ). AreNodesBelow p t (2 * n) nodes) end (subst (λ (x : Thread). AreNodesBelow p x (2 * part.end) nodes) same h) in
-      resumes_are program code nodes below rs (subst (λ (x : Thread). AreFoundAt p x nodes program.resumes rs) same found)
+  module _ (part : Part) (g : slice_get p.graph.threads t.number ≡ Some part) (program : Program) (code : IsThreadCode p t program)
+      (spaced : (node : ℕ) → IsNodeOf t node → IsChosen p.graph p.boundaries node → code.places.entry node < code.places.core node)
+      (stands : List Stand) (h : AreStandsBelow p (thread_in p t.number part) (2 * part.end) stands) where
+    below_end : AreStandsBelow p t (2 * t.part.end) stands
+    below_end =
+        let end : part.end ≡ t.part.end = ap (λ (x : Part). x.end) (same_Some part t.part (sym g ∙ th.nodes)) in
+        subst (λ (n : ℕ). AreStandsBelow p t (2 * n) stands) end
+        (subst (λ (x : Thread). AreStandsBelow p x (2 * part.end) stands) (same_thread p t th part g) h)
 
-  pub many_in : (part : Part) → slice_get p.graph.threads t.number ≡ Some part → (program : Program) (code : IsThreadCode p t program) (nodes : List ℕ) →
-      AreNodesBelow p (thread_in p t.number part) (2 * part.end) nodes → length nodes ≡ length program.resumes
-  many_in part g program code nodes h =
-      let same = same_thread p t th part g in
-      let end : part.end ≡ t.part.end = ap (λ (x : Part). x.end) (same_Some part t.part (sym g ∙ th.nodes)) in
-      let below : AreNodesBelow p t (2 * t.part.end) nodes =
-      subst (λ (n : ℕ). AreNodesBelow p t (2 * n) nodes) end (subst (λ (x : Thread). AreNodesBelow p x (2 * part.end) nodes) same h) in
-      as_many program code nodes below
+    pub resumes_in : (rs : List Resume) → AreFoundAt p (thread_in p t.number part) stands program.resumes rs → AreResumes p t program code rs
+    resumes_in rs found =
+        resumes_are program code spaced stands below_end rs
+        (subst (λ (x : Thread). AreFoundAt p x stands program.resumes rs) (same_thread p t th part g) found)
+
+    pub many_in : length stands ≡ length program.resumes
+    many_in = as_many program code spaced stands below_end
 
 -- ---- One more
 
-map_push : {X : Type 0} (f : X → ℕ) (xs : List X) (x : X) → map f (xs ++ x ∷ []) ≡ map f xs ++ f x ∷ []
+map_push : {X Y : Type 0} (f : X → Y) (xs : List X) (x : X) → map f (xs ++ x ∷ []) ≡ map f xs ++ f x ∷ []
 map_push f [] x = refl
-map_push f (y ∷ xs) x = ap (λ (ns : List ℕ). f y ∷ ns) (map_push f xs x)
+map_push f (y ∷ xs) x = ap (λ ns. f y ∷ ns) (map_push f xs x)
 
 push_cases : {X : Type 0} (xs : List X) (y : X) (k : ℕ) (z : X) → slice_get (xs ++ y ∷ []) k ≡ Some z → (slice_get xs k ≡ Some z) ⊎ (y ≡ z)
 push_cases [] y zero z g = inr (let same : y ≡ z = cc in same)
@@ -154,12 +170,12 @@ push_cases [] y (suc k) z g = cc
 push_cases (x ∷ xs) y zero z g = inl g
 push_cases (x ∷ xs) y (suc k) z g = push_cases xs y k z g
 
-pub found_more : (p : Plan) (t : Thread) (nodes addresses : List ℕ) (k d e : ℕ) (rs : List Resume) (r : Resume) → k < length nodes → k < length addresses →
-    r.node ≡ get_or nodes k d → r.address ≡ get_or addresses k e → IsFound p t r → AreFoundAt p t (take k nodes) (take k addresses) rs →
-    AreFoundAt p t (take (k + 1) nodes) (take (k + 1) addresses) (rs ++ r ∷ [])
-found_more p t nodes addresses k d e rs r short few node address found h = record {
-  nodes_are = map_push (λ (x : Resume). x.node) rs r ∙ ap (λ (ns : List ℕ). ns ++ r.node ∷ []) h.nodes_are
-      ∙ ap (λ (n : ℕ). take k nodes ++ n ∷ []) node ∙ sym (take_more nodes k d short);
+pub found_more : (p : Plan) (t : Thread) (stands : List Stand) (addresses : List ℕ) (k : ℕ) (d : Stand) (e : ℕ) (rs : List Resume) (r : Resume) →
+    k < length stands → k < length addresses → stand_of r ≡ get_or stands k d → r.address ≡ get_or addresses k e → IsFound p t r →
+    AreFoundAt p t (take k stands) (take k addresses) rs → AreFoundAt p t (take (k + 1) stands) (take (k + 1) addresses) (rs ++ r ∷ [])
+found_more p t stands addresses k d e rs r short few stand address found h = record {
+  stands_are = map_push stand_of rs r ∙ ap (λ (ns : List Stand). ns ++ stand_of r ∷ []) h.stands_are
+      ∙ ap (λ (n : Stand). take k stands ++ n ∷ []) stand ∙ sym (take_more stands k d short);
   addresses_are = map_push (λ (x : Resume). x.address) rs r ∙ ap (λ (ns : List ℕ). ns ++ r.address ∷ []) h.addresses_are
       ∙ ap (λ (n : ℕ). take k addresses ++ n ∷ []) address ∙ sym (take_more addresses k e few);
   each = λ j z g. ⊎_elim (λ l. h.each j z l) (λ same. subst (λ (x : Resume). IsFound p t x) same found) (push_cases rs r j z g);
@@ -218,25 +234,26 @@ pub addresses_at : (ms : List ThreadMarks) (n : ℕ) (m : ThreadMarks) → n < l
 addresses_at ms n m below e = marks_at ms n m (read_get ms n m below e)
 
 module _ {p : Plan} (plan : IsPlan p) {codes : Codes p} {marks : List (List ℕ)} (are : AreMarksOf p codes marks) (n : ℕ) (below : n < length p.graph.threads)
-    {part : Part} (g : slice_get p.graph.threads n ≡ Some part) {nodes : List ℕ} (h : AreNodesBelow p (thread_in p n part) (2 * part.end) nodes) where
+    {part : Part} (g : slice_get p.graph.threads n ≡ Some part) {stands : List Stand} (h : AreStandsBelow p (thread_in p n part) (2 * part.end) stands) where
   number : n ≡ (codes.each n below).thread.number
   number = sym (codes.number n below)
 
   part_there : slice_get p.graph.threads (codes.each n below).thread.number ≡ Some part
   part_there = subst (λ (m : ℕ). slice_get p.graph.threads m ≡ Some part) number g
 
-  nodes_there : AreNodesBelow p (thread_in p (codes.each n below).thread.number part) (2 * part.end) nodes
-  nodes_there = subst (λ (m : ℕ). AreNodesBelow p (thread_in p m part) (2 * part.end) nodes) number h
+  stands_there : AreStandsBelow p (thread_in p (codes.each n below).thread.number part) (2 * part.end) stands
+  stands_there = subst (λ (m : ℕ). AreStandsBelow p (thread_in p m part) (2 * part.end) stands) number h
 
-  pub many_coded : length nodes ≡ length (slice_index_or marks n [])
+  pub many_coded : length stands ≡ length (slice_index_or marks n [])
   many_coded =
       let code = codes.each n below in
-      many_in p plan code.thread code.of part part_there code.program code.is nodes nodes_there ∙ ap (λ (ns : List ℕ). length ns) (are.each n below)
+      many_in p plan code.thread code.of part part_there code.program code.is (are.spaced n below) stands stands_there
+      ∙ ap (λ (ns : List ℕ). length ns) (are.each n below)
 
-  pub resumes_coded : (rs : List Resume) → AreFoundAt p (thread_in p n part) nodes (slice_index_or marks n []) rs →
+  pub resumes_coded : (rs : List Resume) → AreFoundAt p (thread_in p n part) stands (slice_index_or marks n []) rs →
       AreResumes p (codes.each n below).thread (codes.each n below).program (codes.each n below).is rs
   resumes_coded rs found =
       let code = codes.each n below in
-      resumes_in p plan code.thread code.of part part_there code.program code.is nodes nodes_there rs
-      (subst (λ (ads : List ℕ). AreFoundAt p (thread_in p code.thread.number part) nodes ads rs) (sym (are.each n below))
-      (subst (λ (m : ℕ). AreFoundAt p (thread_in p m part) nodes (slice_index_or marks n []) rs) number found))
+      resumes_in p plan code.thread code.of part part_there code.program code.is (are.spaced n below) stands stands_there rs
+      (subst (λ (ads : List ℕ). AreFoundAt p (thread_in p code.thread.number part) stands ads rs) (sym (are.each n below))
+      (subst (λ (m : ℕ). AreFoundAt p (thread_in p m part) stands (slice_index_or marks n []) rs) number found))

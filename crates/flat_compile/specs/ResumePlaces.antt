@@ -1,5 +1,6 @@
 -- Where recovery resumes threads, and what it finds there.
-use Rattle.std.specs.Prelude.{◌≡◌, ◌≢◌, ◌↔◌, ℕ, ◌-◌, ◌<◌, List, [], length, map, slice_get, slice_index_or, Contains, Option, Some, Bool, ◌&&◌, is_some, Vec}
+use Rattle.std.specs.Prelude.{◌≡◌, ◌≢◌, ◌↔◌, ℕ, ◌-◌, ◌<◌, List, [], length, map, slice_get, slice_index_or, Contains, Option, Some}
+use Rattle.std.specs.Prelude.{Bool, true, false, ◌&&◌, is_some, Vec}
 use Rattle.c_tree.specs.Exprs.{LockName}
 use Rattle.c_tree.specs.Flats as f
 use Rattle.c_tree.specs.NullReferences.{is_among}
@@ -8,16 +9,14 @@ use Rattle.std.specs.Global.{Global}
 use Rattle.std.specs.List.Sorted.{IsStrictlyIncreasing}
 use Rattle.flow_graph.specs.Nodes.{Lock, Unlock, Node}
 use Rattle.flow_graph.specs.IdempotentCuts.{IsChosen}
-use Rattle.flow_graph.specs.Liveness.{NodeAt, IsLive}
-use Rattle.thread_code.specs.Plans.{Plan, Thread, IsNodeOf, held_names_before, locks_held, set_before}
+use Rattle.flow_graph.specs.Liveness.{NodeAt}
+use Rattle.thread_code.specs.Plans.{Plan, Thread, IsLogged, IsNodeOf, held_names_before, locks_held, set_before}
 use Rattle.thread_code.specs.NodeCodeEffects.{Places}
 use Rattle.thread_code.specs.Programs.{IsThreadCode}
 use Rattle.code_runs.specs.CodeTraces.{Program}
-use Rattle.recovered_threads.specs.RecordDescriptions.{Codes}
+use Rattle.recovered_threads.specs.RecordDescriptions.{Codes, CountsOn, NodePlace, the_core, the_entry}
 use Rattle.flat_compile.specs.declared.resumes.LiveLocal.{LiveLocal}
 use Rattle.flat_compile.specs.declared.resumes.Resume.{Resume}
-use Rattle.expr_code.specs.declared.home.Home.TheVariants.{InRegister}
-use Rattle.expr_code.specs.EvaluationCode.{home_of}
 
 -- ---- Where
 
@@ -36,11 +35,24 @@ abbrev pub goes_on_at : Spot → ℕ
 goes_on_at (Before node) = node
 goes_on_at (After node next) = next
 
+-- past the boundary before it, or at its entry
+abbrev pub place_in : Spot → NodePlace
+place_in (Before node) = the_core
+place_in (After node next) = the_entry
+
+abbrev pub place_at : (at_core : Bool) → NodePlace
+place_at true = the_core
+place_at false = the_entry
+
 abbrev pub address_in : Places → Spot → ℕ
 address_in c (Before node) = c.core node
 address_in c (After node next) = c.after node
 
--- ---- What the text says of a thread's locals
+-- ---- What is known of a thread's locals
+
+-- their colours: the number of each one's home, of its register among those of locals, or of its word in the frame
+abbrev pub colours_in : Plan → Thread → List ℕ
+colours_in p t = slice_index_or p.colours t.number []
 
 -- what they refer to
 abbrev pub refers_in : Plan → Thread → List (Option ℕ)
@@ -65,22 +77,37 @@ module _ (p : Plan) (t : Thread) where
 
   -- ---- What is found
 
-  -- the local is live at the entry of the node, and that register is its home
-  pub record IsLiveLocal (node : ℕ) (l : LiveLocal) : Type 0 where
+  -- the thread counts on the local there, and this is its colour
+  pub record IsLiveLocal (node : ℕ) (place : NodePlace) (l : LiveLocal) : Type 0 where
     pub kind_is : slice_get t.kinds l.local ≡ Some l.kind
     pub refers_is : slice_get (refers_in p t) l.local ≡ Some l.refers
     pub known_is : l.known ≡ is_known (knowns_before p t node) l
-    pub live : IsLive p.graph l.local node
-    pub home_is : home_of t.locals l.local ≡ InRegister l.register
+    pub counted : CountsOn p t node place l.local
+    pub coloured : slice_get (colours_in p t) l.local ≡ Some l.colour
 
-  -- what recovery finds that lets the thread go on at the node: the names whose locks it holds, the registers of its live locals, and where it stores next
+  -- the node is a logged assignment of the local, of whose number nothing is known
+  pub record IsAssignedLocal (node : ℕ) (l : LiveLocal) : Type 0 where
+    pub logged : IsLogged p t node
+    pub local_is : l.local ≡ logged.local
+    pub kind_is : slice_get t.kinds l.local ≡ Some l.kind
+    pub refers_is : slice_get (refers_in p t) l.local ≡ Some l.refers
+    pub known_is : l.known ≡ false
+    pub coloured : slice_get (colours_in p t) l.local ≡ Some l.colour
+
+  -- the thread makes that assignment next
+  abbrev pub IsAssignedAt : (node : ℕ) → NodePlace → LiveLocal → Type 0
+  IsAssignedAt node the_entry l = ⊥
+  IsAssignedAt node the_core l = IsAssignedLocal node l
+
+  -- what recovery finds that lets the thread go on at the node: the names whose locks it holds, the homes of its live locals, and what it writes next
   pub record IsFound (r : Resume) : Type 0 where
     pub own : IsNodeOf t r.node
     pub held_is : r.held.items ≡ locks_held (set_before p t r.node)
-    pub live : (l : LiveLocal) → Contains r.live.items l ↔ IsLiveLocal r.node l
-    pub ascend : IsStrictlyIncreasing (map (λ (l : LiveLocal). l.register) r.live.items)
-    -- no node but a store writes
+    pub live : (l : LiveLocal) → Contains r.live.items l ↔ IsLiveLocal r.node (place_at r.at_core) l
+    pub ascend : IsStrictlyIncreasing (map (λ (l : LiveLocal). l.colour) r.live.items)
+    -- no node but a store writes an element
     pub pending_is : (is : Node) → NodeAt p.graph r.node is → r.pending ≡ is.writes
+    pub assigned_is : (l : LiveLocal) → (r.assigned ≡ Some l) ↔ IsAssignedAt r.node (place_at r.at_core) l
 
   -- the thread is resumed at the entry's address, and goes on at its node
   pub record IsResumeOf (c : Places) (r : Resume) : Type 0 where
@@ -88,11 +115,13 @@ module _ (p : Plan) (t : Thread) where
     pub is : IsSpot spot
     pub at : address_in c spot ≡ r.address
     pub goes_on : goes_on_at spot ≡ r.node
+    pub stands : place_in spot ≡ place_at r.at_core
     pub found : IsFound r
 
-  -- the entries are all places where the thread may be resumed, in their order
+  -- the entries are all places where the thread may be resumed, in their order, each with an address of its own
   pub record AreResumes (program : Program) (code : IsThreadCode p t program) (rs : List Resume) : Type 0 where
     pub addresses : map (λ (r : Resume). r.address) rs ≡ program.resumes
+    pub apart : (a b : Spot) → IsSpot a → IsSpot b → address_in code.places a ≡ address_in code.places b → a ≡ b
     pub each : (k : ℕ) (r : Resume) → slice_get rs k ≡ Some r → IsResumeOf code.places r
 
 -- ---- Of all threads
@@ -106,10 +135,16 @@ pub record IsResumeTable (p : Plan) (codes : Codes p) (table : List (Vec Resume 
   pub each : (n : ℕ) (below : n < length p.graph.threads) →
       AreResumes p (codes.each n below).thread (codes.each n below).program (codes.each n below).is (resumes_at table n)
 
--- the addresses are where code of the plan's threads may be resumed
+-- in the code of the plan's threads each boundary before a core has room of its own
+abbrev pub AreSpaced : (p : Plan) → Codes p → Type 0
+AreSpaced p codes = (n : ℕ) (below : n < length p.graph.threads) (node : ℕ) → IsNodeOf (codes.each n below).thread node →
+    IsChosen p.graph p.boundaries node → (codes.each n below).is.places.entry node < (codes.each n below).is.places.core node
+
+-- the addresses are where such code may be resumed
 pub record AreMarksOf (p : Plan) (codes : Codes p) (marks : List (List ℕ)) : Type 0 where
   pub count : length marks ≡ length p.graph.threads
   pub each : (n : ℕ) (below : n < length p.graph.threads) → (codes.each n below).program.resumes ≡ slice_index_or marks n []
+  pub spaced : AreSpaced p codes
 
 pub record AreMarked (p : Plan) (marks : List (List ℕ)) : Type 0 where
   pub codes : Codes p

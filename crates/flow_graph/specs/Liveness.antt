@@ -16,6 +16,10 @@ pub data IsLive (g : Graph) (local : ℕ) : (node : ℕ) → Type 0 where
   is_read : {n : ℕ} (x : Node) → NodeAt g n x → Contains x.uses local → IsLive g local n
   is_read_later : {n m : ℕ} (x : Node) → NodeAt g n x → x.assigns ≢ Some local → Contains (successors x.action) m → IsLive g local m → IsLive g local n
 
+-- no local is live where a thread begins: on every path it is assigned before it is read
+abbrev pub AreAssignedFirst : Graph → Type 0
+AreAssignedFirst g = (thread : ℕ) (part : Part) → slice_get g.threads thread ≡ Some part → (local : ℕ) → ¬ (IsLive g local part.first)
+
 -- ---- Intervals
 
 pub record IsAssigned (g : Graph) (local node : ℕ) : Type 0 where

@@ -23,7 +23,7 @@ use Rattle.crash_images.specs.ImageDecoder.{logs_at, source_at, variables_at, ve
 use Rattle.crash_images.specs.declared.state.State as code
 use Rattle.crash_images.specs.links.Views.{state_of}
 use Rattle.crash_images.specs.declared.version.ImageVersion.{ImageVersion}
-use Rattle.crash_images.specs.declared.version.ImageVersion.TheVariants.{First, Second, Third}
+use Rattle.crash_images.specs.declared.version.ImageVersion.TheVariants.{First, Second, Third, Fourth}
 use Rattle.machine_model.specs.Schedule.{all_lives}
 use Rattle.run_scripts.specs.links.ReportViews.{steps_of}
 use Rattle.run_tracker.specs.links.EarlierLives.{lives_in}
@@ -182,6 +182,7 @@ some_told : (version : ImageVersion) (lives : ℕ) → contents.Tells version li
 some_told First lives told = omega (arith, told)
 some_told Second lives told = omega (arith, told)
 some_told Third lives told = told.0
+some_told Fourth lives told = told.0
 
 pub some_lives : (version : ImageVersion) (c : Compiled) (s : State) (lives : Vec (Vec ℕ Global) Global) →
     IsStateAnswer (log_of version) (flat_of c.flat) c.translated.resumes.items s (Ok lives) → contents.Tells version (length s.lives) → 1 ≤ length lives.items

@@ -11,8 +11,17 @@ use Rattle.memory_layout.specs.Variables.{HaveRoom}
 use Rattle.variable_words.proofs.Public.{well_formed_placed}
 use Rattle.ido_compile.specs.declared.compiler.Compiled.{Compiled}
 use Rattle.ido_compile.specs.CompileAnswers.{IsCompiledAs}
+use Rattle.flat_compile.specs.TranslatedForms.{IsTranslatedAs}
 use Rattle.image_checks.specs.ResumeSlots.{TablesHaveKinds, TablesHaveRoom, TablesHaveSlots}
 use Rattle.image_checks.proofs.Public.{table_kinds, table_room, table_slots}
+
+-- what is compiled is so for the log that its object names
+pub by_object : (log : Log) (text : List ℕ) (c : Compiled) → IsCompiledAs log text c → IsCompiledAs c.translated.object.log text c
+by_object log text c is = subst (λ (l : Log). IsCompiledAs l text c) (sym is.translated.log) is
+
+pub translated_by_object : (log : Log) (text : List ℕ) (c : Compiled) → IsCompiledAs log text c → let made = c.translated in
+    IsTranslatedAs made.object.log (flat_of c.flat) made.object made.marks made.cuts
+translated_by_object log text c is = (by_object log text c is).translated
 
 pub record IsReady (log : Log) (c : Compiled) : Type 0 where
   pub formed : IsWellFormed (flat_of c.flat)
@@ -32,7 +41,7 @@ ready log text c is =
       room = subst (λ (x : Flat). HaveRoom (map shape_of x.variables)) t.of_flat (well_formed_placed y.plan.flat t.is.plan.formed).room;
       kinds = subst (λ (x : Flat). TablesHaveKinds x c.translated.resumes.items) t.of_flat
           (table_kinds y.plan t.is.codes c.translated.resumes.items is.resumable.are);
-      slots = table_slots y.plan t.is.codes c.translated.resumes.items is.resumable.are;
+      slots = table_slots y.plan t.is.plan t.is.codes c.translated.resumes.items is.resumable.are;
       locks = subst (λ (l : Log). TablesHaveRoom l c.translated.resumes.items)
           (t.is.log ∙ (ap (λ (x : Executable). x.log) t.runs ∙ t.log))
           (table_room y.plan t.is.plan t.is.codes c.translated.resumes.items is.resumable.are);

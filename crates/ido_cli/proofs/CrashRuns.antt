@@ -11,8 +11,7 @@ use Rattle.c_tree.specs.Flats.{flat_of}
 use Rattle.machine_model.specs.declared.object.Object.{Object}
 use Rattle.rv64_isa.specs.declared.object.Marks.{Marks}
 use Rattle.ido_compile.specs.LoggedTexts.{IsAcceptedAs, IsRefusedAs}
-use Rattle.flat_compile.specs.TranslatedForms.{command_log}
-use Rattle.ido_compile.specs.CompileAnswers.{IsCompileAnswer}
+use Rattle.ido_compile.specs.CompileAnswers.{IsCompileAnswerAs}
 use Rattle.ido_compile.specs.declared.error.CompileError.{CompileError}
 use Rattle.ido_compile.specs.declared.error.CompileError.TheVariants as error
 use Rattle.run_scripts.specs.Plays.{script_events}
@@ -131,31 +130,30 @@ module _ (flat : f.Flat) (object : Object) (marks : Marks) (cuts : Cuts) (lines 
 
 -- ---- What a source and a script are answered
 
-module _ (source input : List ℕ) (is : source ≡ source_of input) where
-  pub sweep_refused : (found : CompileError) → IsCompileAnswer source (Err found) → (status : ℕ) (output : List ℕ) → TellsRefusal found source status output →
-      SweepAnswer input status output
+module _ (log : Log) (source input : List ℕ) (is : source ≡ source_of input) where
+  pub sweep_refused : (found : CompileError) → IsCompileAnswerAs log source (Err found) → (status : ℕ) (output : List ℕ) →
+      TellsRefusal found source status output → SweepAnswer log input status output
   sweep_refused (error.Refused x) refused status output (one, told) =
-      unswept x.rule x.place (subst (λ (text : List ℕ). IsRefusedAs command_log text x.rule x.place) is refused)
+      unswept x.rule x.place (subst (λ (text : List ℕ). IsRefusedAs log text x.rule x.place) is refused)
       (one, told ∙ ap (λ (text : List ℕ). line_at (code_of x.rule) text x.place.0) is)
   sweep_refused error.Memory refused status output none = absurd none
 
-module _ (input rest : List ℕ) (flat : f.Flat) (log : Log) (harts : ℕ) (is : rest ≡ rest_of input) (logs : log ≡ command_log)
-    (many : harts ≡ length flat.threads) (accepted : IsAcceptedAs command_log (source_of input) flat) where
-  read_is : e.read command_log (length flat.threads) (rest_of input) ≡ e.read log harts rest
-  read_is =
-      ap (λ (l : Log). e.read l (length flat.threads) (rest_of input)) (sym logs)
-      ∙ (ap (λ (n : ℕ). e.read log n (rest_of input)) (sym many) ∙ sym (ap (e.read log harts) is))
+module _ (input rest : List ℕ) (flat : f.Flat) (log : Log) (harts : ℕ) (is : rest ≡ rest_of input) (many : harts ≡ length flat.threads)
+    (accepted : IsAcceptedAs log (source_of input) flat) where
+  read_is : e.read log (length flat.threads) (rest_of input) ≡ e.read log harts rest
+  read_is = ap (λ (n : ℕ). e.read log n (rest_of input)) (sym many) ∙ sym (ap (e.read log harts) is)
 
   pub swept_fault : (o : Option e.Fault) (status : ℕ) (output : List ℕ) → IsSome o → IfSome o (λ x. e.read log harts rest ≡ e.Refused x) →
       IfSome o (λ x. IsRefusedAt 6 (script_fault_code x) input (length input - length rest + script_fault_place x) status output) →
-      SweepAnswer input status output
+      SweepAnswer log input status output
   swept_fault (Some x) status output some read said =
       no_points flat accepted x (read_is ∙ read)
       (subst (λ (r : List ℕ). IsRefusedAt 6 (script_fault_code x) input (length input - length r + script_fault_place x) status output) is said)
   swept_fault None status output some read said = absurd (cc some)
 
-  pub swept_script : (lines : List e.Line) (c : Translation) (status : ℕ) (output : List ℕ) → e.read log harts rest ≡ e.Lines lines → IsTranslationOf flat c →
-      SweptScript c (record { lines = lines; input = input; begins = length input - length rest }) status output → SweepAnswer input status output
+  pub swept_script : (lines : List e.Line) (c : Translation) (status : ℕ) (output : List ℕ) → e.read log harts rest ≡ e.Lines lines →
+      IsTranslationOf log flat c →
+      SweptScript c (record { lines = lines; input = input; begins = length input - length rest }) status output → SweepAnswer log input status output
   swept_script lines c status output read translation answer =
       of_points flat accepted lines (read_is ∙ read) c translation
       (subst (λ (r : List ℕ). SweptScript c (record { lines = lines; input = input; begins = length input - length r }) status output) is answer)

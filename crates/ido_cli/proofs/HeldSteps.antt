@@ -32,7 +32,7 @@ module _ (p : Plan) (plan : IsPlan p) (thread : ℕ) (part : Part) (at : slice_g
   colours = found_in p.colours thread (omega (arith, below, plan.registers.threads))
 
   abbrev own : Thread
-  own = record { number = thread; part = part; kinds = text.0.locals; locals = map home_of_colour colours.0 }
+  own = record { number = thread; part = part; kinds = text.0.locals; locals = map (home_of_colour p.log thread) colours.0 }
 
   is_own : IsThread p own
   is_own = record {

@@ -1,5 +1,5 @@
 -- What `recover` says of the image of a run.
-use Rattle.std.proofs.Common.{◌≡◌, ℕ, ◌≤◌, List, length, ap₂, subst, arith, Result, Ok, Err, Some}
+use Rattle.std.proofs.Common.{◌≡◌, ℕ, ◌≤◌, List, length, refl, ap, ap₂, sym, ◌∙◌, subst, arith, Result, Ok, Err, Some}
 use Rattle.std.specs.Prelude.{sum_by}
 use Rattle.std.proofs.lemmas.Option.{none-some}
 use Rattle.machine_events.specs.declared.event.Event.{Event}
@@ -9,11 +9,18 @@ use Rattle.compiler_correctness.specs.Images as files
 use Rattle.compiler_correctness.specs.Translations.{Translation}
 use Rattle.ido_compile.specs.CompileAnswers.{translation_in}
 use Rattle.image_checks.specs.declared.error.ImageError.{ImageError}
-use Rattle.image_checks.specs.RunImages.{left_by}
+use Rattle.image_checks.specs.RunImages.{left_by, file_contents}
+use Rattle.log_schemes.specs.declared.log.Log.{Log}
+use Rattle.flat_compile.specs.TranslatedForms.{IsTranslatedAs}
+use Rattle.ido_compile.specs.LoggedTexts.{IsAcceptedAs}
+use Rattle.crash_images.specs.ImageDecoder.{IsReadAs}
+use Rattle.command_words.specs.declared.scheme.SchemeName.{SchemeName}
+use Rattle.command_words.specs.declared.scheme.SchemeName.TheVariants.{Ido, Justdo}
+use Rattle.ido_cli.specs.Schemes.{log_by}
 use Rattle.ido_cli.specs.declared.compiled_image.Image.{Image}
-use Rattle.crash_images.specs.Contents.{log_of, number_of}
+use Rattle.crash_images.specs.Contents.{log_of, number_of, written_as}
 use Rattle.crash_images.specs.declared.version.ImageVersion.{ImageVersion}
-use Rattle.crash_images.specs.declared.version.ImageVersion.TheVariants.{First, Second, Third}
+use Rattle.crash_images.specs.declared.version.ImageVersion.TheVariants.{First, Second, Third, Fourth}
 use Rattle.ido_cli.specs.CompiledImages.{IsImageAnswer}
 use Rattle.ido_cli.specs.ImagesReadAgain.{IsReadAgain, IsRunImage, again, elsewhere, no_memory, RunImagesAreRead}
 use Rattle.ido_cli.specs.Answers.{RecoverAnswer, no_image, of_image, file_in}
@@ -31,10 +38,16 @@ few c events short =
     first_kept_few c.runs.marks c.runs.program (first_world c.runs) events in
     omega (arith, kept, short)
 
-no_newer : (version : ImageVersion) → number_of version ≤ number_of Third
+no_newer : (version : ImageVersion) → number_of version ≤ number_of Fourth
 no_newer First = omega arith
 no_newer Second = omega arith
 no_newer Third = omega arith
+no_newer Fourth = omega arith
+
+-- the version that is written for the log of a scheme is one of that log
+of_log : (scheme : SchemeName) → log_of (written_as (log_by scheme)) ≡ log_by scheme
+of_log Ido = refl
+of_log Justdo = refl
 
 -- the file in the image that is read again is what was left
 pub file_again : (image : Image) (left : files.Image) → image.words.items ≡ left.words →
@@ -51,8 +64,8 @@ module _ (law : RunImagesAreRead) (version : ImageVersion) (source image : List 
   abbrev Read : Result Image ImageError → Type 0
   Read result = IsReadAgain (log_of version) source c (left_by c before) result
 
-  read : (result : Result Image ImageError) → IsImageAnswer Third image result → Read result
-  read result told = law Third version source image c before result (no_newer version) is told
+  read : (result : Result Image ImageError) → IsImageAnswer Fourth image result → Read result
+  read result told = law Fourth version source image c before result (no_newer version) is told
 
   not_read : (error : ImageError) → status ≡ 6 → image_line error ≡ Some output → Read (Err error) → Recovered
   not_read error six line (elsewhere d x of differs fault) = refused d x of differs fault six line
@@ -71,16 +84,20 @@ pub run_images_are_recovered : RunImagesAreRead → RunImagesAreRecovered
 run_images_are_recovered law version source image c before turns status output is told = by law version source image c before is turns status output told
 
 pub runs_are_recovered : RunImagesAreRead → RunsAreRecovered
-runs_are_recovered law source image flat c before turns status answer output accepted of short written told =
-    let is : IsRunImage Third source c before image = record {
+runs_are_recovered law scheme source image flat c before turns status answer output accepted of short written told =
+    let log = log_by scheme in
+    let version = written_as log in
+    let logs : c.runs.log ≡ log = ap (λ (x : Translation). x.runs.log) of.is ∙ of.translated.log in
+    let same = of_log scheme in
+    let is : IsRunImage version source c before image = record {
       flat = flat;
       object = of.object;
       marks = of.marks;
       cuts = of.cuts;
       is = of.is;
-      accepted = accepted;
-      translated = of.translated;
+      accepted = subst (λ (l : Log). IsAcceptedAs l source flat) (sym same) accepted;
+      translated = subst (λ (l : Log). IsTranslatedAs l flat of.object of.marks of.cuts) (sym same) of.translated;
       few = few c before short;
-      spelled = written.read_as;
+      spelled = subst (λ (l : Log). IsReadAs (written_as l) (file_contents source c (left_by c before)) image) logs written.read_as;
     } in
-    by law Third source image c before is turns answer output told
+    subst (λ (l : Log). IsRecoveredRun l source c before turns answer output) same (by law version source image c before is turns answer output told)

@@ -10,6 +10,8 @@ use Rattle.log_schemes.specs.declared.size.LogSize.{LogSize}
 use Rattle.log_schemes.specs.declared.size.LogSize.TheVariants.{Lines16, Lines32}
 use Rattle.log_schemes.specs.Schemes.{lines_of, size_of}
 use Rattle.ido_base.specs.Layout.{variable_lines}
+use Rattle.log_schemes.specs.Schemes.{locals_of}
+use Rattle.log_schemes.specs.declared.locals.Locals.TheVariants.{Registers}
 use Rattle.log_schemes.specs.declared.log.Log.{Log}
 use Rattle.ido_base.specs.declared.limits.TheConstants.{MOST_STEPS, VARIABLE_WORDS}
 use Rattle.machine_events.specs.declared.event.Event.{Event}
@@ -40,10 +42,11 @@ use Rattle.ido_cli.specs.CompiledImages.{IsImageAnswer, whole}
 use Rattle.hart_driver.specs.declared.stop.Stop.{Stop}
 use Rattle.hart_driver.specs.Legs.{IsLeg}
 use Rattle.ido_compile.specs.CompileAnswers.{IsCompiledAs, translation_in}
+use Rattle.ido_compile.specs.declared.compiler.Compiled.{Compiled}
 use Rattle.image_checks.proofs.Public.{lives_few}
 use Rattle.crash_images.specs.Contents.{Tells, log_of}
 use Rattle.crash_images.specs.declared.version.ImageVersion.{ImageVersion}
-use Rattle.crash_images.specs.declared.version.ImageVersion.TheVariants.{First, Second, Third}
+use Rattle.crash_images.specs.declared.version.ImageVersion.TheVariants.{First, Second, Third, Fourth}
 use Rattle.compiler_correctness.specs.SettledImages.{IsCarriedOn, IsSettledImage}
 use Rattle.image_runs.specs.Laws.{AcceptedGoOn, AcceptedRunOn}
 use Rattle.ido_compile.specs.Files.{FilesBegin}
@@ -58,6 +61,7 @@ use Rattle.ido_cli.specs.Runs.{IsReport}
 use Rattle.ido_cli.specs.ThreadedRuns.{leg_after, moment_after, most_leg_events}
 use Rattle.ido_cli.specs.links.LegRuns.{leg_from}
 use Rattle.ido_cli.specs.links.RecoveredLives.{HasRecovered}
+use Rattle.ido_cli.proofs.CompiledLimits.{translated_by_object}
 use Rattle.ido_cli.proofs.LastLifeApart.{as_many_lives}
 use Rattle.ido_cli.proofs.KeptStepsBounded.{all_kept_few}
 use Rattle.ido_cli.proofs.LegEvents.{leg_bounded}
@@ -248,17 +252,11 @@ pub compiled_in : (newest : ImageVersion) (bytes : List ℕ) (image : i.Image) �
     (version : ImageVersion) × (source : List ℕ) × IsCompiledAs (log_of version) source image.compiled
 compiled_in newest bytes image (whole read is) = (is.version, is.is.source.source, is.is.source.compiled)
 
--- what a machine runs for it logs as the object says
-pub by_object : (log : Log) (flat : f.Flat) (object : Object) (marks : Marks) (cuts : Cuts) → IsTranslatedAs log flat object marks cuts →
-    IsTranslatedAs object.log flat object marks cuts
-by_object log flat object marks cuts t = subst (λ (l : Log). IsTranslatedAs l flat object marks cuts) (sym t.log) t
-
 pub translated_in : (newest : ImageVersion) (bytes : List ℕ) (image : i.Image) → IsImageAnswer newest bytes (Ok image) → let made = image.compiled.translated in
     IsTranslatedAs made.object.log (f.flat_of image.compiled.flat) made.object made.marks made.cuts
 translated_in newest bytes image read =
     let it = compiled_in newest bytes image read in
-    let made = image.compiled.translated in
-    by_object (log_of it.0) (f.flat_of image.compiled.flat) made.object made.marks made.cuts it.2.translated
+    translated_by_object (log_of it.0) it.1 image.compiled it.2
 
 -- it has few steps
 pub few_steps_in : (newest : ImageVersion) (bytes : List ℕ) (image : i.Image) → IsImageAnswer newest bytes (Ok image) →
@@ -272,6 +270,7 @@ few_told : (version : ImageVersion) (lives : ℕ) → Tells version lives → li
 few_told First lives told = omega (arith, told)
 few_told Second lives told = omega (arith, told)
 few_told Third lives told = told.1
+few_told Fourth lives told = told.1
 
 -- it has few lives
 pub few_lives_in : (newest : ImageVersion) (bytes : List ℕ) (image : i.Image) → IsImageAnswer newest bytes (Ok image) →
@@ -296,26 +295,32 @@ words_in newest bytes image (whole read is) =
     ∙ ap₂ (λ (m n : ℕ). m + n) variables
     (is.is.after.fits.logs ∙ ap (λ (l : Log). log_words l * length object.code.items) (sym is.is.source.compiled.translated.log))
 
--- what is read as an image is run on, whoever wrote it
+-- its version's log has its locals where the object's has them
+logged : (version : ImageVersion) (source : List ℕ) (c : Compiled) → IsCompiledAs (log_of version) source c →
+    locals_of c.translated.object.log ≡ Registers → locals_of (log_of version) ≡ Registers
+logged version source c compiled registers = ap locals_of (sym compiled.translated.log) ∙ registers
+
+-- what is read as an image is run on where locals stand in registers, whoever wrote it
 pub accepted_runs_on : AcceptedRunOn → (newest : ImageVersion) (bytes : List ℕ) (image : i.Image) → IsImageAnswer newest bytes (Ok image) →
-    RunsOn (translation_in image.compiled) (image_in (translation_in image.compiled) (file_in image))
-accepted_runs_on run newest bytes image (whole read is) =
+    locals_of image.compiled.translated.object.log ≡ Registers → RunsOn (translation_in image.compiled) (image_in (translation_in image.compiled) (file_in image))
+accepted_runs_on run newest bytes image (whole read is) registers =
     let c = image.compiled in
     let t = c.translated in
     let state = is.state in
     let kept = (file_in image).kept in
     let compiled = is.is.source.compiled in
     let after = is.is.after in
-    let on = run is.version (f.flat_of c.flat) t.object t.marks t.cuts t.resumes.items state kept compiled.resumable after.fits after.references is.sound in
+    let on = run is.version (logged is.version is.is.source.source c compiled registers) (f.flat_of c.flat) t.object t.marks t.cuts t.resumes.items state kept compiled.resumable after.fits
+    after.references is.sound in
     let count : length state.variables ≡ length t.object.initial.items / 8 = omega (arith, after.fits.variables) in
     let spread = ap₂ (λ (n : ℕ) (ws : List ℕ). spread_words n ws) count (sym is.words) in
     subst (λ (ws : List ℕ). RunsOn (translation_in c) (record { words = ws; kept = kept })) spread on
 
 -- and where it is settled, lives go on from it as from the source's start
 pub accepted_goes_on : AcceptedGoOn → (newest : ImageVersion) (bytes : List ℕ) (image : i.Image) → IsImageAnswer newest bytes (Ok image) →
-    let c = translation_in image.compiled in
+    locals_of image.compiled.translated.object.log ≡ Registers → let c = translation_in image.compiled in
     IsSettledImage c (image_in c (file_in image)) → (events : List Event) → IsCarriedOn c (image_in c (file_in image)) events
-accepted_goes_on go_on newest bytes image (whole read is) settled events =
+accepted_goes_on go_on newest bytes image (whole read is) registers settled events =
     let c = image.compiled in
     let t = c.translated in
     let state = is.state in
@@ -325,6 +330,6 @@ accepted_goes_on go_on newest bytes image (whole read is) settled events =
     let count : length state.variables ≡ length t.object.initial.items / 8 = omega (arith, after.fits.variables) in
     let spread = ap₂ (λ (n : ℕ) (ws : List ℕ). spread_words n ws) count (sym is.words) in
     let here = subst (λ (ws : List ℕ). IsSettledImage (translation_in c) (record { words = ws; kept = kept })) (sym spread) settled in
-    let on = go_on is.version (f.flat_of c.flat) t.object t.marks t.cuts t.resumes.items state kept compiled.resumable after.fits after.references is.sound here
-    events in
+    let on = go_on is.version (logged is.version is.is.source.source c compiled registers) (f.flat_of c.flat) t.object t.marks t.cuts t.resumes.items state kept compiled.resumable after.fits
+    after.references is.sound here events in
     subst (λ (ws : List ℕ). IsCarriedOn (translation_in c) (record { words = ws; kept = kept }) events) spread on

@@ -1,9 +1,9 @@
 -- What a crash would leave of a life that a script was played on.
-use Rattle.std.proofs.Common.{◌≡◌, ℕ, ◌+◌, ◌*◌, ◌/◌, ◌≤◌, List, length, map, take, drop, ap, subst, ◌∙◌, arith}
+use Rattle.std.proofs.Common.{◌≡◌, ℕ, ◌+◌, ◌*◌, ◌/◌, ◌≤◌, List, length, map, take, drop, ap, ap₂, sym, subst, ◌∙◌, arith}
 use Rattle.std.specs.Prelude.{sum_by}
+use Rattle.std.proofs.Math.Nat.{mul-le-mul_left}
 use Rattle.std.proofs.lemmas.List.{length-map}
 use Rattle.log_schemes.specs.Layout.{log_words}
-use Rattle.log_schemes.specs.declared.log.Log.{Log}
 use Rattle.ido_base.specs.declared.limits.TheConstants.{VARIABLE_WORDS}
 use Rattle.machine_events.specs.declared.event.Event.{Event}
 use Rattle.c_tree.specs.Flats as f
@@ -14,14 +14,13 @@ use Rattle.machine_model.specs.Machine.{World}
 use Rattle.rv64_isa.specs.Programs.{slot_of}
 use Rattle.machine_model.specs.Schedule.{Steps, all_lives, schedules}
 use Rattle.flow_graph.specs.declared.cuts.Cuts.{Cuts}
-use Rattle.flat_compile.specs.TranslatedForms.{IsTranslated, command_log}
+use Rattle.flat_compile.specs.TranslatedForms.{IsTranslatedAs}
 use Rattle.compiler_correctness.specs.Compilations.{IsCompilation}
 use Rattle.compiler_correctness.specs.Images.{file_of, image_of, variable_words}
 use Rattle.compiler_correctness.specs.Translations.{Translation, translation_to}
-use Rattle.crash_images.specs.Contents.{Contents, contents}
+use Rattle.crash_images.specs.Contents.{Contents, contents, most_logs, written_as}
 use Rattle.crash_images.specs.ImageDecoder.{IsReadAs}
 use Rattle.crash_images.specs.ImageEncoder.{spelling}
-use Rattle.crash_images.specs.declared.version.ImageVersion.TheVariants.{Third}
 use Rattle.run_tracker.specs.ObjectLives.{Course, LifeConfig, left_words, steps_in, variable_words_in, world_of}
 use Rattle.image_checks.specs.RunImages.{left_by, file_contents}
 use Rattle.ido_cli.specs.Images.{IsImageAfter}
@@ -62,23 +61,21 @@ module _ (flat : f.Flat) (object : Object) (marks : Marks) (cuts : Cuts) (life :
       first_lives_few c.runs.marks c.runs.program (first_world c.runs) events in
       omega (arith, ap length same_kept, few)
 
-  module _ (t : IsTranslated flat object marks cuts) (compilation : IsCompilation made) where
+  module _ (t : IsTranslatedAs object.log flat object marks cuts) (compilation : IsCompilation made) where
     pub variables_few : variable_words_in life ≤ VARIABLE_WORDS
     variables_few = omega (arith, same_variables, t.limits.bytes)
 
-    size : length left ≡ variable_words_in life + log_words command_log * length object.code.items
+    size : length left ≡ variable_words_in life + log_words object.log * length object.code.items
     size =
         let harts = length-map object.code.items (λ code. map slot_of code.items) in
-        let in_file = subst (λ (l : Log). length (file_of made (image_of made events)).words
-        ≡ variable_words made + log_words l * length made.runs.program) t.log
-        (compilation.in_file events).size in
-        omega (arith, ap length same_left, in_file, same_variables, harts)
+        let in_file = (compilation.in_file events).size in
+        ap length same_left ∙ in_file ∙ ap₂ (λ (n k : ℕ). n + log_words object.log * k) (sym same_variables) harts
 
     pub variables_within : variable_words_in life ≤ length left
     variables_within = omega (arith, size)
 
-    pub logs_few : length left ≤ variable_words_in life + 2048
-    logs_few = omega (arith, size, t.limits.threads)
+    pub logs_few : length left ≤ variable_words_in life + most_logs object.log
+    logs_few = omega (arith, size, mul-le-mul_left (log_words object.log) t.limits.threads)
 
   same_contents : (source : List ℕ) → contents source (take (variable_words_in life) left) (drop (variable_words_in life) left) (schedules (steps_in life)) ≡
       file_contents source made (left_by made events)
@@ -89,11 +86,11 @@ module _ (flat : f.Flat) (object : Object) (marks : Marks) (cuts : Cuts) (life :
       same_kept
 
   pub image_after : (source : List ℕ) (status : ℕ) (output : List ℕ) → status ≡ 0 →
-      output ≡ spelling Third (contents source (take (variable_words_in life) left) (drop (variable_words_in life) left) (schedules (steps_in life))) →
-      IsReadAs Third (contents source (take (variable_words_in life) left) (drop (variable_words_in life) left) (schedules (steps_in life))) output →
+      let all = contents source (take (variable_words_in life) left) (drop (variable_words_in life) left) (schedules (steps_in life)) in
+      output ≡ spelling (written_as object.log) all → IsReadAs (written_as object.log) all output →
       IsImageAfter source made events status output
   image_after source status output done told read = record {
     status_is = done;
-    output_is = told ∙ ap (spelling Third) (same_contents source);
-    read_as = subst (λ (x : Contents). IsReadAs Third x output) (same_contents source) read;
+    output_is = told ∙ ap (spelling (written_as object.log)) (same_contents source);
+    read_as = subst (λ (x : Contents). IsReadAs (written_as object.log) x output) (same_contents source) read;
   }

@@ -8,13 +8,13 @@ use Rattle.machine_model.specs.Schedule.{Steps, schedules}
 use Rattle.run_scripts.specs.links.ReportViews.{steps_of}
 use Rattle.crash_images.specs.Contents.{Contents, contents}
 use Rattle.crash_images.specs.ImageDecoder.{IsReadAs}
-use Rattle.crash_images.specs.declared.version.ImageVersion.TheVariants.{Third}
+use Rattle.crash_images.specs.declared.version.ImageVersion.{ImageVersion}
 
-pub third_as_same : (source variables logs : List ℕ) (schedules : List (List ℕ)) (bytes vs ls : List ℕ) (ks : List (List ℕ)) →
-    IsReadAs Third (contents source variables logs schedules) bytes → variables ≡ vs → logs ≡ ls → schedules ≡ ks →
-    IsReadAs Third (contents source vs ls ks) bytes
-third_as_same source variables logs schedules bytes vs ls ks read a b c =
-    subst (λ (o : Contents). IsReadAs Third o bytes)
+pub read_as_same : (version : ImageVersion) (source variables logs : List ℕ) (schedules : List (List ℕ)) (bytes vs ls : List ℕ) (ks : List (List ℕ)) →
+    IsReadAs version (contents source variables logs schedules) bytes → variables ≡ vs → logs ≡ ls → schedules ≡ ks →
+    IsReadAs version (contents source vs ls ks) bytes
+read_as_same version source variables logs schedules bytes vs ls ks read a b c =
+    subst (λ (o : Contents). IsReadAs version o bytes)
     (ap (λ (x : List ℕ). contents source x logs schedules) a ∙ ap (λ (x : List ℕ). contents source vs x schedules) b ∙ ap (contents source vs ls) c) read
 
 module _ (schedules : List (Vec ℕ Global)) (schedule : List ℕ) (is : map steps_of schedules ≡ schedule ∷ []) where

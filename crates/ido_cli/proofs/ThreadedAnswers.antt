@@ -19,7 +19,7 @@ use Rattle.compiler_correctness.specs.Compilations.{IsCompilation}
 use Rattle.hart_driver.specs.declared.stop.Stop.{Stop}
 use Rattle.hart_driver.specs.Driven.{evictions_of as coming_of}
 use Rattle.hart_driver.specs.Legs.{IsLeg}
-use Rattle.ido_compile.specs.CompileAnswers.{IsCompileAnswer}
+use Rattle.ido_compile.specs.CompileAnswers.{IsCompileAnswerAs}
 use Rattle.ido_compile.specs.declared.error.CompileError.{CompileError}
 use Rattle.ido_compile.specs.declared.error.CompileError.TheVariants as error
 use Rattle.run_scripts.specs.declared.evictor.Evictor.{Evictor}
@@ -93,11 +93,11 @@ module _ (flat : f.Flat) (object : Object) (marks : Marks) (cuts : Cuts) (cap : 
       told = told_by flat object marks cuts life life.journal live_played compilation journal source status output said;
     }
 
-pub live_refused : (turns : ℕ) (crashes : List ℕ) (evict : Option ℕ) (journal : Bool) (source : List ℕ) (found : CompileError) →
-    IsCompileAnswer source (Err found) → (status : ℕ) (output : List ℕ) → TellsRefusal found source status output →
-    LiveAnswer turns crashes evict journal source status output
-live_refused turns crashes evict journal source (error.Refused x) refused status output told = unrun x.rule x.place refused told
-live_refused turns crashes evict journal source error.Memory refused status output none = absurd none
+pub live_refused : (log : Log) (turns : ℕ) (crashes : List ℕ) (evict : Option ℕ) (journal : Bool) (source : List ℕ) (found : CompileError) →
+    IsCompileAnswerAs log source (Err found) → (status : ℕ) (output : List ℕ) → TellsRefusal found source status output →
+    LiveAnswer log turns crashes evict journal source status output
+live_refused log turns crashes evict journal source (error.Refused x) refused status output told = unrun x.rule x.place refused told
+live_refused log turns crashes evict journal source error.Memory refused status output none = absurd none
 
 -- ---- `load`
 

@@ -11,6 +11,7 @@ use Rattle.ido_cli.specs.declared.top.Unsaid.{Unsaid}
 use Rattle.ido_cli.specs.declared.top.Unsaid.TheVariants.{Failed, Memory}
 use Rattle.machine_events.specs.declared.event.Event.{Event}
 use Rattle.ido_base.specs.declared.limits.TheConstants.{MOST_INPUT_BYTES}
+use Rattle.log_schemes.specs.declared.log.Log.{Log}
 use Rattle.c_tree.specs.Flats as f
 use Rattle.machine_model.specs.Machine.{World}
 use Rattle.compiler_correctness.specs.Translations.{Translation}
@@ -41,20 +42,20 @@ some_longer : (n : ℕ) → (input : List ℕ) × (n < length input)
 some_longer n = (replicate (n + 1) 0, omega (arith, length-replicate {A = ℕ} (n + 1) 0))
 
 long_is_past : (c : Command) (input : List ℕ) → reads_input c ≡ true → MOST_INPUT_BYTES < length input → IsPastLimits c input
-long_is_past command.Compile input reads long = omega (arith, long)
+long_is_past (command.Compile scheme) input reads long = omega (arith, long)
 long_is_past (command.Regions least) input reads long = omega (arith, long)
-long_is_past (command.Play fences) input reads long = inl long
+long_is_past (command.Play fences scheme) input reads long = inl long
 long_is_past command.Source input reads long = inl long
 long_is_past command.List input reads long = long
-long_is_past command.Image input reads long = inl long
+long_is_past (command.Image scheme) input reads long = inl long
 long_is_past command.Order input reads long = omega (arith, long)
 long_is_past (command.Recover turns) input reads long = long
 long_is_past (command.Upgrade turns) input reads long = long
 long_is_past (command.Make rounds seed) input reads long = cc reads
-long_is_past (command.Seeded seed turns crashes journal) input reads long = omega (arith, long)
-long_is_past (command.Live turns crashes evict journal) input reads long = omega (arith, long)
-long_is_past (command.Load rounds seed) input reads long = cc reads
-long_is_past command.Sweep input reads long = inl long
+long_is_past (command.Seeded seed turns crashes journal scheme) input reads long = omega (arith, long)
+long_is_past (command.Live turns crashes evict journal scheme) input reads long = omega (arith, long)
+long_is_past (command.Load rounds seed scheme) input reads long = cc reads
+long_is_past (command.Sweep scheme) input reads long = inl long
 
 pub said_to_long_input : (c : Command) (left : Option (List ℕ)) (said : Said) → IsTaken c left None → Refuses 6 said.status (codes "limit") said.output.items →
     IsSaidToInput c left said
@@ -72,22 +73,22 @@ told_some None = ([], tt)
 
 any_input : (c : Command) (input other : List ℕ) (status : ℕ) (output : List ℕ) → reads_input c ≡ false → AnswerToInput c input status output →
     AnswerToInput c other status output
-any_input command.Compile input other status output unread answer = cc unread
+any_input (command.Compile scheme) input other status output unread answer = cc unread
 any_input (command.Regions least) input other status output unread answer = cc unread
-any_input (command.Play fences) input other status output unread answer = cc unread
+any_input (command.Play fences scheme) input other status output unread answer = cc unread
 any_input command.Source input other status output unread answer = cc unread
 any_input command.List input other status output unread answer = cc unread
-any_input command.Image input other status output unread answer = cc unread
+any_input (command.Image scheme) input other status output unread answer = cc unread
 any_input command.Order input other status output unread answer = cc unread
 any_input (command.Recover turns) input other status output unread answer = cc unread
 any_input (command.Upgrade turns) input other status output unread answer = cc unread
 any_input (command.Make rounds seed) input other status output unread (past_limits past refused) = absurd past
 any_input (command.Make rounds seed) input other status output unread (within_limits within answer) = within_limits (λ past. past) answer
-any_input (command.Seeded seed turns crashes journal) input other status output unread answer = cc unread
-any_input (command.Live turns crashes evict journal) input other status output unread answer = cc unread
-any_input command.Sweep input other status output unread answer = cc unread
-any_input (command.Load rounds seed) input other status output unread (past_limits past refused) = absurd past
-any_input (command.Load rounds seed) input other status output unread (within_limits within answer) = within_limits (λ past. past) answer
+any_input (command.Seeded seed turns crashes journal scheme) input other status output unread answer = cc unread
+any_input (command.Live turns crashes evict journal scheme) input other status output unread answer = cc unread
+any_input (command.Sweep scheme) input other status output unread answer = cc unread
+any_input (command.Load rounds seed scheme) input other status output unread (past_limits past refused) = absurd past
+any_input (command.Load rounds seed scheme) input other status output unread (within_limits within answer) = within_limits (λ past. past) answer
 
 said_to_no_input : (c : Command) (left : Option (List ℕ)) (said : Said) → reads_input c ≡ false →
     AnswerToInput c [] said.status said.output.items → IsSaidToInput c left said
@@ -144,7 +145,7 @@ of_source input status output (unaccepted found place is refused) h = not_four_o
 of_source input status output (no_schedule flat is x read refused) h = not_four_or_seven status 6 refused.0 (inr refl) h
 of_source input status output (of_schedules flat is lives read answer) h = of_run flat lives status output answer h
 
-of_compile : (source : List ℕ) (status : ℕ) (output : List ℕ) → CompileAnswer source status output → (status ≡ 4) ⊎ (status ≡ 7) → ⊥
+of_compile : {log : Log} (source : List ℕ) (status : ℕ) (output : List ℕ) → CompileAnswer log source status output → (status ≡ 4) ⊎ (status ≡ 7) → ⊥
 of_compile source status output (uncompiled found place is refused) h = not_four_or_seven status 1 refused.0 (inl (omega arith)) h
 of_compile source status output (compiled flat is c made e told) h = not_four_or_seven status 0 e (inl (omega arith)) h
 
@@ -157,9 +158,9 @@ of_order source status output (unlocked found place is refused) h = not_four_or_
 of_order source status output (unordered flat is fault breaks e told) h = not_four_or_seven status 1 e (inl (omega arith)) h
 of_order source status output (ordered flat is none e told) h = not_four_or_seven status 0 e (inl (omega arith)) h
 
-of_scripted : (Says : Translation → List Event → ℕ → List ℕ → Type 0) →
+of_scripted : {log : Log} (Says : Translation → List Event → ℕ → List ℕ → Type 0) →
     ((c : Translation) (events : List Event) (status : ℕ) (output : List ℕ) → Says c events status output → (status ≡ 4) ⊎ (status ≡ 7) → ⊥) →
-    (input : List ℕ) (status : ℕ) (output : List ℕ) → ScriptedAnswer Says input status output → (status ≡ 4) ⊎ (status ≡ 7) → ⊥
+    (input : List ℕ) (status : ℕ) (output : List ℕ) → ScriptedAnswer log Says input status output → (status ≡ 4) ⊎ (status ≡ 7) → ⊥
 of_scripted Says others input status output (unplayed found place is refused) h = not_four_or_seven status 1 refused.0 (inl (omega arith)) h
 of_scripted Says others input status output (no_script flat is x read refused) h = not_four_or_seven status 6 refused.0 (inr refl) h
 of_scripted Says others input status output (of_script flat is lines read c made (faulty fault at refused)) h =
@@ -170,7 +171,7 @@ by_settled : (settled : Bool) (status : ℕ) → status ≡ status_of settled �
 by_settled true status e h = not_four_or_seven status 0 e (inl (omega arith)) h
 by_settled false status e h = not_four_or_seven status 3 e (inl (omega arith)) h
 
-of_sweep : (input : List ℕ) (status : ℕ) (output : List ℕ) → SweepAnswer input status output → (status ≡ 4) ⊎ (status ≡ 7) → ⊥
+of_sweep : {log : Log} (input : List ℕ) (status : ℕ) (output : List ℕ) → SweepAnswer log input status output → (status ≡ 4) ⊎ (status ≡ 7) → ⊥
 of_sweep input status output (unswept found place is refused) h = not_four_or_seven status 1 refused.0 (inl (omega arith)) h
 of_sweep input status output (no_points flat is x read refused) h = not_four_or_seven status 6 refused.0 (inr refl) h
 of_sweep input status output (of_points flat is lines read c made (unswept_script fault at refused)) h = not_four_or_seven status 6 refused.0 (inr refl) h
@@ -191,20 +192,20 @@ of_upgrade turns input status output (not_older error is e told) h = not_four_or
 of_upgrade turns input status output (of_older image source is on upgrade) h =
     of_upgraded source (translation_in image.compiled) _ _ status output upgrade.said h
 
-of_seeded : (seed turns : ℕ) (crashes : List ℕ) (journal : Bool) (source : List ℕ) (status : ℕ) (output : List ℕ) →
-    SeededAnswer seed turns crashes journal source status output → (status ≡ 4) ⊎ (status ≡ 7) → ⊥
+of_seeded : {log : Log} (seed turns : ℕ) (crashes : List ℕ) (journal : Bool) (source : List ℕ) (status : ℕ) (output : List ℕ) →
+    SeededAnswer log seed turns crashes journal source status output → (status ≡ 4) ⊎ (status ≡ 7) → ⊥
 of_seeded seed turns crashes journal source status output (undrawn found place is refused) h = not_four_or_seven status 1 refused.0 (inl (omega arith)) h
 of_seeded seed turns crashes false source status output (drawn flat is c made run) h = by_unsettled _ status run.reported.status_is h
 of_seeded seed turns crashes true source status output (drawn flat is c made told) h = not_four_or_seven status 0 told.0 (inl (omega arith)) h
 
-of_live : (turns : ℕ) (crashes : List ℕ) (evict : Option ℕ) (journal : Bool) (source : List ℕ) (status : ℕ) (output : List ℕ) →
-    LiveAnswer turns crashes evict journal source status output → (status ≡ 4) ⊎ (status ≡ 7) → ⊥
+of_live : {log : Log} (turns : ℕ) (crashes : List ℕ) (evict : Option ℕ) (journal : Bool) (source : List ℕ) (status : ℕ) (output : List ℕ) →
+    LiveAnswer log turns crashes evict journal source status output → (status ≡ 4) ⊎ (status ≡ 7) → ⊥
 of_live turns crashes evict journal source status output (unrun found place is refused) h = not_four_or_seven status 1 refused.0 (inl (omega arith)) h
 of_live turns crashes evict false source status output (ran_on_threads flat is c made events legs run) h = by_unsettled _ status run.reported.status_is h
 of_live turns crashes evict true source status output (ran_on_threads flat is c made events legs told) h =
     not_four_or_seven status 0 told.0 (inl (omega arith)) h
 
-of_load : (rounds seed status : ℕ) (output : List ℕ) → LoadAnswer rounds seed status output → (status ≡ 4) ⊎ (status ≡ 7) → ⊥
+of_load : {log : Log} (rounds seed status : ℕ) (output : List ℕ) → LoadAnswer log rounds seed status output → (status ≡ 4) ⊎ (status ≡ 7) → ⊥
 of_load rounds seed status output answer h = by_unsettled _ status answer.summary.summed.status_is h
 
 of_list : (input : List ℕ) (status : ℕ) (output : List ℕ) → ListAnswer input status output → (status ≡ 4) ⊎ (status ≡ 7) → ⊥
@@ -212,25 +213,25 @@ of_list input status output (no_object fault read e told) h = not_four_or_seven 
 of_list input status output (of_object object read e told) h = not_four_or_seven status 0 e (inl (omega arith)) h
 
 of_command : (c : Command) (input : List ℕ) (status : ℕ) (output : List ℕ) → CommandAnswer c input status output → (status ≡ 4) ⊎ (status ≡ 7) → ⊥
-of_command command.Compile input status output answer h = of_compile input status output answer h
+of_command (command.Compile scheme) input status output answer h = of_compile input status output answer h
 of_command (command.Regions least) input status output answer h = of_regions least input status output answer h
-of_command (command.Play false) input status output answer h =
+of_command (command.Play false scheme) input status output answer h =
     of_scripted IsRunBy (λ c events s o run. by_unsettled _ s run.reported.status_is) input status output answer h
-of_command (command.Play true) input status output answer h =
+of_command (command.Play true scheme) input status output answer h =
     of_scripted IsFencedRun (λ c events s o fenced. by_unsettled _ s fenced.run.reported.status_is) input status output answer h
 of_command command.Source input status output answer h = of_source input status output answer h
 of_command command.List input status output answer h = of_list input status output answer h
-of_command command.Image input status output answer h =
+of_command (command.Image scheme) input status output answer h =
     of_scripted (IsImageAfter (source_of input)) (λ c events s o image. not_four_or_seven s 0 image.status_is (inl (omega arith))) input status output
     answer h
 of_command command.Order input status output answer h = of_order input status output answer h
 of_command (command.Recover turns) input status output answer h = of_recover turns input status output answer h
 of_command (command.Upgrade turns) input status output answer h = of_upgrade turns input status output answer h
 of_command (command.Make rounds seed) input status output answer h = not_four_or_seven status 0 answer.status_is (inl (omega arith)) h
-of_command (command.Seeded seed turns crashes journal) input status output answer h = of_seeded seed turns crashes journal input status output answer h
-of_command (command.Live turns crashes evict journal) input status output answer h = of_live turns crashes evict journal input status output answer h
-of_command (command.Load rounds seed) input status output answer h = of_load rounds seed status output answer h
-of_command command.Sweep input status output answer h = of_sweep input status output answer h
+of_command (command.Seeded seed turns crashes journal scheme) input status output answer h = of_seeded seed turns crashes journal input status output answer h
+of_command (command.Live turns crashes evict journal scheme) input status output answer h = of_live turns crashes evict journal input status output answer h
+of_command (command.Load rounds seed scheme) input status output answer h = of_load rounds seed status output answer h
+of_command (command.Sweep scheme) input status output answer h = of_sweep input status output answer h
 
 of_input : (c : Command) (input : List ℕ) (status : ℕ) (output : List ℕ) → AnswerToInput c input status output → (status ≡ 4) ⊎ (status ≡ 7) → ⊥
 of_input c input status output (past_limits past refused) h = not_four_or_seven status 6 refused.0 (inr refl) h

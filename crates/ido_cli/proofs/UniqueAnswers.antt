@@ -3,6 +3,7 @@ use Rattle.std.proofs.Common.{◌≡◌, ℕ, ◌+◌, List, [], ◌∷◌, leng
 use Rattle.std.proofs.Common.{Err, Bool, true, false, codes, sym, ap, ap₂, ◌∙◌, subst, arith}
 use Rattle.machine_events.specs.declared.event.Event.{Event}
 use Rattle.ido_base.specs.declared.place.Place.{Place}
+use Rattle.log_schemes.specs.declared.log.Log.{Log}
 use Rattle.c_tree.specs.Flats as f
 use Rattle.c_tree.specs.Source.{start}
 use Rattle.run_scripts.specs.Schedules as s
@@ -25,6 +26,7 @@ use Rattle.object_format.specs.Contents.{Contents}
 use Rattle.file_fields.specs.Fields as fields
 use Rattle.object_listing.specs.ObjectListing.{listing}
 use Rattle.ido_cli.specs.Runs.{RunAnswer, ran, stopped, status_by}
+use Rattle.ido_cli.specs.Schemes.{log_by}
 use Rattle.ido_cli.specs.Inputs.{source_of, rest_of}
 use Rattle.ido_cli.specs.Answers.{CommandAnswer, CompileAnswer, uncompiled, compiled, RegionsAnswer, uncut, cut, PlayAnswer}
 use Rattle.ido_cli.specs.Answers.{ScriptedAnswer, unplayed, no_script, of_script, ImageAnswer, RecoverAnswer, no_image, of_image}
@@ -52,10 +54,10 @@ abbrev Same : (status other : ℕ) → (output written : List ℕ) → Type 0
 Same status other output written = (status ≡ other) × (output ≡ written)
 
 -- a rule that the source breaks, or what else is answered, which has another status
-data Verdict (text : List ℕ) (status : ℕ) (output : List ℕ) : Type 0 where
-  breaks : (found : r.Rule) (place : Place) → IsRefusedAs command_log text found place → IsRefusedAt 1 (code_of found) text place.0 status output →
-      Verdict text status output
-  keeps : (flat : f.Flat) → IsAcceptedAs command_log text flat → (status ≡ 1 → ⊥) → Verdict text status output
+data Verdict (log : Log) (text : List ℕ) (status : ℕ) (output : List ℕ) : Type 0 where
+  breaks : (found : r.Rule) (place : Place) → IsRefusedAs log text found place → IsRefusedAt 1 (code_of found) text place.0 status output →
+      Verdict log text status output
+  keeps : (flat : f.Flat) → IsAcceptedAs log text flat → (status ≡ 1 → ⊥) → Verdict log text status output
 
 module _ (one_flat : OneFlat) (one_fault : OneFault) (not_both : NotBoth) (one_stop : OneLifeStop) (not_whole : LivesNotWhole) where
   -- ---- A run
@@ -148,14 +150,15 @@ module _ (one_flat : OneFlat) (one_fault : OneFault) (not_both : NotBoth) (one_s
 
   -- ---- A refused source
 
-  one_refusal : (text : List ℕ) (status other : ℕ) (output written : List ℕ) → status ≡ 1 → Verdict text status output → Verdict text other written →
+  one_refusal : (log : Log) (text : List ℕ) (status other : ℕ) (output written : List ℕ) → status ≡ 1 → Verdict log text status output →
+      Verdict log text other written →
       Same status other output written
-  one_refusal text status other output written one (breaks found place is (e, told)) (breaks again elsewhere also (h, more)) =
-      let both = one_fault command_log text found again place elsewhere is also in
+  one_refusal log text status other output written one (breaks found place is (e, told)) (breaks again elsewhere also (h, more)) =
+      let both = one_fault log text found again place elsewhere is also in
       (e ∙ sym h, told ∙ ap₂ (λ rule (at : Place). line_at (code_of rule) text at.0) both.0 both.1 ∙ sym more)
-  one_refusal text status other output written one (breaks found place is told) (keeps flat accepted other_one) =
-      absurd (not_both command_log text flat found place accepted is)
-  one_refusal text status other output written one (keeps flat accepted other_one) v = absurd (other_one one)
+  one_refusal log text status other output written one (breaks found place is told) (keeps flat accepted other_one) =
+      absurd (not_both log text flat found place accepted is)
+  one_refusal log text status other output written one (keeps flat accepted other_one) v = absurd (other_one one)
 
   not_one : (status n : ℕ) → status ≡ n → (n ≡ 1 → ⊥) → status ≡ 1 → ⊥
   not_one status n e other one = other (sym e ∙ one)
@@ -164,53 +167,57 @@ module _ (one_flat : OneFlat) (one_fault : OneFault) (not_both : NotBoth) (one_s
   not_by_unsettled [] status e one = omega arith
   not_by_unsettled (h ∷ hs) status e one = omega arith
 
-  of_compile : (text : List ℕ) (status : ℕ) (output : List ℕ) → CompileAnswer text status output → Verdict text status output
-  of_compile text status output (uncompiled found place is told) = breaks found place is told
-  of_compile text status output (compiled flat is x made e told) = keeps flat is (λ one. omega (arith, e, one))
+  of_compile : (log : Log) (text : List ℕ) (status : ℕ) (output : List ℕ) → CompileAnswer log text status output → Verdict log text status output
+  of_compile log text status output (uncompiled found place is told) = breaks found place is told
+  of_compile log text status output (compiled flat is x made e told) = keeps flat is (λ one. omega (arith, e, one))
 
-  of_regions : (least : Bool) (text : List ℕ) (status : ℕ) (output : List ℕ) → RegionsAnswer least text status output → Verdict text status output
+  of_regions : (least : Bool) (text : List ℕ) (status : ℕ) (output : List ℕ) → RegionsAnswer least text status output → Verdict command_log text status output
   of_regions least text status output (uncut found place is told) = breaks found place is told
   of_regions least text status output (cut flat is x made e told) = keeps flat is (λ one. omega (arith, e, one))
 
-  of_seeded : (seed turns : ℕ) (crashes : List ℕ) (journal : Bool) (text : List ℕ) (status : ℕ) (output : List ℕ) →
-      SeededAnswer seed turns crashes journal text status output → Verdict text status output
-  of_seeded seed turns crashes journal text status output (undrawn found place is told) = breaks found place is told
-  of_seeded seed turns crashes false text status output (drawn flat is c made run) = keeps flat is (not_by_unsettled _ status run.reported.status_is)
-  of_seeded seed turns crashes true text status output (drawn flat is c made told) = let zero = told.0 in keeps flat is (λ one. omega (arith, zero, one))
+  of_seeded : (log : Log) (seed turns : ℕ) (crashes : List ℕ) (journal : Bool) (text : List ℕ) (status : ℕ) (output : List ℕ) →
+      SeededAnswer log seed turns crashes journal text status output → Verdict log text status output
+  of_seeded log seed turns crashes journal text status output (undrawn found place is told) = breaks found place is told
+  of_seeded log seed turns crashes false text status output (drawn flat is c made run) = keeps flat is (not_by_unsettled _ status run.reported.status_is)
+  of_seeded log seed turns crashes true text status output (drawn flat is c made told) = let zero = told.0 in keeps flat is (λ one. omega (arith, zero, one))
 
-  of_live : (turns : ℕ) (crashes : List ℕ) (evict : Option ℕ) (journal : Bool) (text : List ℕ) (status : ℕ) (output : List ℕ) →
-      LiveAnswer turns crashes evict journal text status output → Verdict text status output
-  of_live turns crashes evict journal text status output (unrun found place is told) = breaks found place is told
-  of_live turns crashes evict false text status output (ran_on_threads flat is c made events legs run) =
+  of_live : (log : Log) (turns : ℕ) (crashes : List ℕ) (evict : Option ℕ) (journal : Bool) (text : List ℕ) (status : ℕ) (output : List ℕ) →
+      LiveAnswer log turns crashes evict journal text status output → Verdict log text status output
+  of_live log turns crashes evict journal text status output (unrun found place is told) = breaks found place is told
+  of_live log turns crashes evict false text status output (ran_on_threads flat is c made events legs run) =
       keeps flat is (not_by_unsettled _ status run.reported.status_is)
-  of_live turns crashes evict true text status output (ran_on_threads flat is c made events legs told) =
+  of_live log turns crashes evict true text status output (ran_on_threads flat is c made events legs told) =
       let zero = told.0 in keeps flat is (λ one. omega (arith, zero, one))
 
-  of_load : (rounds seed status : ℕ) (output : List ℕ) → LoadAnswer rounds seed status output → Verdict (generated_source rounds seed) status output
-  of_load rounds seed status output answer = keeps answer.flat answer.accepted (not_by_unsettled _ status answer.summary.summed.status_is)
+  of_load : (log : Log) (rounds seed status : ℕ) (output : List ℕ) → LoadAnswer log rounds seed status output →
+      Verdict log (generated_source rounds seed) status output
+  of_load log rounds seed status output answer = keeps answer.flat answer.accepted (not_by_unsettled _ status answer.summary.summed.status_is)
 
-  module _ (Says : Translation → List Event → ℕ → List ℕ → Type 0)
+  module _ (log : Log) (Says : Translation → List Event → ℕ → List ℕ → Type 0)
       (others : (c : Translation) (events : List Event) (status : ℕ) (output : List ℕ) → Says c events status output → status ≡ 1 → ⊥) where
     not_of_script : (c : Translation) (lines : List scripts.Line) (input : List ℕ) (begins status : ℕ) (output : List ℕ) →
         ScriptAnswer c (Says c) (record { lines = lines; input = input; begins = begins }) status output → status ≡ 1 → ⊥
     not_of_script c lines input begins status output (faulty fault at refused) one = let is = refused.0 in omega (arith, is, one)
     not_of_script c lines input begins status output (ran_by none few said) one = others c _ status output said one
 
-    of_scripted : (input : List ℕ) (status : ℕ) (output : List ℕ) → ScriptedAnswer Says input status output → Verdict (source_of input) status output
+    of_scripted : (input : List ℕ) (status : ℕ) (output : List ℕ) → ScriptedAnswer log Says input status output →
+        Verdict log (source_of input) status output
     of_scripted input status output (unplayed found place is told) = breaks found place is told
     of_scripted input status output (no_script flat is x read told) = keeps flat is (λ one. let six = told.0 in omega (arith, six, one))
     of_scripted input status output (of_script flat is lines read c made answer) =
         keeps flat is (not_of_script c lines input (rest_begins input) status output answer)
 
-  of_play : (fences : Bool) (input : List ℕ) (status : ℕ) (output : List ℕ) → PlayAnswer fences input status output → Verdict (source_of input) status output
-  of_play false input status output answer =
-      of_scripted IsRunBy (λ c events s o run. not_by_unsettled _ s run.reported.status_is) input status output answer
-  of_play true input status output answer =
-      of_scripted IsFencedRun (λ c events s o fenced. not_by_unsettled _ s fenced.run.reported.status_is) input status output answer
+  of_play : (log : Log) (fences : Bool) (input : List ℕ) (status : ℕ) (output : List ℕ) → PlayAnswer log fences input status output →
+      Verdict log (source_of input) status output
+  of_play log false input status output answer =
+      of_scripted log IsRunBy (λ c events s o run. not_by_unsettled _ s run.reported.status_is) input status output answer
+  of_play log true input status output answer =
+      of_scripted log IsFencedRun (λ c events s o fenced. not_by_unsettled _ s fenced.run.reported.status_is) input status output answer
 
-  of_image_of : (input : List ℕ) (status : ℕ) (output : List ℕ) → ImageAnswer input status output → Verdict (source_of input) status output
-  of_image_of input status output answer =
-      of_scripted (IsImageAfter (source_of input)) (λ c events s o image one. let zero = image.status_is in omega (arith, zero, one)) input
+  of_image_of : (log : Log) (input : List ℕ) (status : ℕ) (output : List ℕ) → ImageAnswer log input status output →
+      Verdict log (source_of input) status output
+  of_image_of log input status output answer =
+      of_scripted log (IsImageAfter (source_of input)) (λ c events s o image one. let zero = image.status_is in omega (arith, zero, one)) input
       status output answer
 
   not_by_settled : (settled : Bool) (status : ℕ) → status ≡ status_of settled → status ≡ 1 → ⊥
@@ -222,10 +229,11 @@ module _ (one_flat : OneFlat) (one_fault : OneFault) (not_both : NotBoth) (one_s
   not_of_points c lines input begins status output (unswept_script fault at refused) one = let six = refused.0 in omega (arith, six, one)
   not_of_points c lines input begins status output (swept none few all) one = not_by_settled _ status all.status_is one
 
-  of_sweep : (input : List ℕ) (status : ℕ) (output : List ℕ) → SweepAnswer input status output → Verdict (source_of input) status output
-  of_sweep input status output (unswept found place is told) = breaks found place is told
-  of_sweep input status output (no_points flat is x read told) = keeps flat is (λ one. let six = told.0 in omega (arith, six, one))
-  of_sweep input status output (of_points flat is lines read c made answer) =
+  of_sweep : (log : Log) (input : List ℕ) (status : ℕ) (output : List ℕ) → SweepAnswer log input status output →
+      Verdict log (source_of input) status output
+  of_sweep log input status output (unswept found place is told) = breaks found place is told
+  of_sweep log input status output (no_points flat is x read told) = keeps flat is (λ one. let six = told.0 in omega (arith, six, one))
+  of_sweep log input status output (of_points flat is lines read c made answer) =
       keeps flat is (not_of_points c lines input (rest_begins input) status output answer)
 
   not_of_recover : (turns : ℕ) (input : List ℕ) (status : ℕ) (output : List ℕ) → RecoverAnswer turns input status output → status ≡ 1 → ⊥
@@ -245,17 +253,17 @@ module _ (one_flat : OneFlat) (one_fault : OneFault) (not_both : NotBoth) (one_s
 
   -- ---- A script that isn't spelled as one
 
-  module _ (Says : Translation → List Event → ℕ → List ℕ → Type 0) (input : List ℕ) (flat : f.Flat)
-      (is : IsAcceptedAs command_log (source_of input) flat)
-      (x : scripts.Fault) (bad : scripts.read command_log (length flat.threads) (rest_of input) ≡ scripts.Refused x) where
-    reading : (other : f.Flat) → IsAcceptedAs command_log (source_of input) other →
-        scripts.read command_log (length other.threads) (rest_of input) ≡ scripts.Refused x
-    reading other also = ap (λ (z : f.Flat). scripts.read command_log (length z.threads) (rest_of input))
-        (one_flat command_log command_log (source_of input) other flat also is) ∙ bad
+  module _ (log : Log) (Says : Translation → List Event → ℕ → List ℕ → Type 0) (input : List ℕ) (flat : f.Flat)
+      (is : IsAcceptedAs log (source_of input) flat)
+      (x : scripts.Fault) (bad : scripts.read log (length flat.threads) (rest_of input) ≡ scripts.Refused x) where
+    reading : (other : f.Flat) → IsAcceptedAs log (source_of input) other →
+        scripts.read log (length other.threads) (rest_of input) ≡ scripts.Refused x
+    reading other also = ap (λ (z : f.Flat). scripts.read log (length z.threads) (rest_of input))
+        (one_flat log log (source_of input) other flat also is) ∙ bad
 
-    misspelling : (status : ℕ) (output : List ℕ) → ScriptedAnswer Says input status output →
+    misspelling : (status : ℕ) (output : List ℕ) → ScriptedAnswer log Says input status output →
         IsRefusedAt 6 (script_fault_code x) input (rest_begins input + script_fault_place x) status output
-    misspelling status output (unplayed found place broken told) = absurd (not_both command_log (source_of input) flat found place is broken)
+    misspelling status output (unplayed found place broken told) = absurd (not_both log (source_of input) flat found place is broken)
     misspelling status output (no_script other also y read told) =
         let both : scripts.Refused y ≡ scripts.Refused x = sym read ∙ reading other also in
         let same : y ≡ x = cc both in
@@ -263,25 +271,25 @@ module _ (one_flat : OneFlat) (one_fault : OneFault) (not_both : NotBoth) (one_s
     misspelling status output (of_script other also lines read c made answer) =
         let both : scripts.Lines lines ≡ scripts.Refused x = sym read ∙ reading other also in cc both
 
-    one_misspelling : (status other : ℕ) (output written : List ℕ) → ScriptedAnswer Says input status output →
-        ScriptedAnswer Says input other written → Same status other output written
+    one_misspelling : (status other : ℕ) (output written : List ℕ) → ScriptedAnswer log Says input status output →
+        ScriptedAnswer log Says input other written → Same status other output written
     one_misspelling status other output written told more =
         let one = misspelling status output told in
         let two = misspelling other written more in
         (one.0 ∙ sym two.0, one.1 ∙ sym two.1)
 
   -- that of a sweep
-  module _ (input : List ℕ) (flat : f.Flat) (is : IsAcceptedAs command_log (source_of input) flat) (x : scripts.Fault)
-      (bad : scripts.read command_log (length flat.threads) (rest_of input) ≡ scripts.Refused x) where
-    read_again : (other : f.Flat) → IsAcceptedAs command_log (source_of input) other →
-        scripts.read command_log (length other.threads) (rest_of input) ≡ scripts.Refused x
-    read_again other also = ap (λ (z : f.Flat). scripts.read command_log (length z.threads) (rest_of input))
-        (one_flat command_log command_log (source_of input) other flat also is) ∙
+  module _ (log : Log) (input : List ℕ) (flat : f.Flat) (is : IsAcceptedAs log (source_of input) flat) (x : scripts.Fault)
+      (bad : scripts.read log (length flat.threads) (rest_of input) ≡ scripts.Refused x) where
+    read_again : (other : f.Flat) → IsAcceptedAs log (source_of input) other →
+        scripts.read log (length other.threads) (rest_of input) ≡ scripts.Refused x
+    read_again other also = ap (λ (z : f.Flat). scripts.read log (length z.threads) (rest_of input))
+        (one_flat log log (source_of input) other flat also is) ∙
         bad
 
-    no_sweep : (status : ℕ) (output : List ℕ) → SweepAnswer input status output →
+    no_sweep : (status : ℕ) (output : List ℕ) → SweepAnswer log input status output →
         IsRefusedAt 6 (script_fault_code x) input (rest_begins input + script_fault_place x) status output
-    no_sweep status output (unswept found place broken told) = absurd (not_both command_log (source_of input) flat found place is broken)
+    no_sweep status output (unswept found place broken told) = absurd (not_both log (source_of input) flat found place is broken)
     no_sweep status output (no_points other also y read told) =
         let both : scripts.Refused y ≡ scripts.Refused x = sym read ∙ read_again other also in
         let same : y ≡ x = cc both in
@@ -289,7 +297,7 @@ module _ (one_flat : OneFlat) (one_fault : OneFault) (not_both : NotBoth) (one_s
     no_sweep status output (of_points other also lines read c made answer) =
         let both : scripts.Lines lines ≡ scripts.Refused x = sym read ∙ read_again other also in cc both
 
-    one_missing_sweep : (status other : ℕ) (output written : List ℕ) → SweepAnswer input status output → SweepAnswer input other written →
+    one_missing_sweep : (status other : ℕ) (output written : List ℕ) → SweepAnswer log input status output → SweepAnswer log input other written →
         Same status other output written
     one_missing_sweep status other output written told more =
         let one = no_sweep status output told in
@@ -303,67 +311,78 @@ module _ (one_flat : OneFlat) (one_fault : OneFault) (not_both : NotBoth) (one_s
   one_within d input status other output written within (past d' e over) told more =
       let same : d ≡ d' = cc e in
       absurd (within (subst (λ z. IsPastLimits z input) (sym same) over))
-  one_within command.Compile input status other output written within (plain n) told more = absurd n
-  one_within command.Compile input status other output written within (breaks_rule one) told more =
-      one_refusal input status other output written one (of_compile input status output told) (of_compile input other written more)
-  one_within command.Compile input status other output written within (misspelled takes flat is x bad) told more = absurd takes
+  one_within (command.Compile scheme) input status other output written within (plain n) told more = absurd n
+  one_within (command.Compile scheme) input status other output written within (breaks_rule one) told more =
+      one_refusal (log_by scheme) input status other output written one (of_compile (log_by scheme) input status output told)
+      (of_compile (log_by scheme) input other written more)
+  one_within (command.Compile scheme) input status other output written within (misspelled log takes flat is x bad) told more = absurd takes
   one_within (command.Regions least) input status other output written within (plain n) told more = absurd n
   one_within (command.Regions least) input status other output written within (breaks_rule one) told more =
-      one_refusal input status other output written one (of_regions least input status output told) (of_regions least input other written more)
-  one_within (command.Regions least) input status other output written within (misspelled takes flat is x bad) told more = absurd takes
-  one_within (command.Play fences) input status other output written within (plain n) told more = absurd n
-  one_within (command.Play fences) input status other output written within (breaks_rule one) told more =
-      one_refusal (source_of input) status other output written one (of_play fences input status output told) (of_play fences input other written more)
-  one_within (command.Play fences) input status other output written within (misspelled takes flat is x bad) told more =
-      one_misspelling (IsPlayed fences) input flat is x bad status other output written told more
-  one_within command.Image input status other output written within (plain n) told more = absurd n
-  one_within command.Image input status other output written within (breaks_rule one) told more =
-      one_refusal (source_of input) status other output written one (of_image_of input status output told) (of_image_of input other written more)
-  one_within command.Image input status other output written within (misspelled takes flat is x bad) told more =
-      one_misspelling (IsImageAfter (source_of input)) input flat is x bad status other output written told more
+      one_refusal command_log input status other output written one (of_regions least input status output told) (of_regions least input other written more)
+  one_within (command.Regions least) input status other output written within (misspelled log takes flat is x bad) told more = absurd takes
+  one_within (command.Play fences scheme) input status other output written within (plain n) told more = absurd n
+  one_within (command.Play fences scheme) input status other output written within (breaks_rule one) told more =
+      one_refusal (log_by scheme) (source_of input) status other output written one (of_play (log_by scheme) fences input status output told)
+      (of_play (log_by scheme) fences input other written more)
+  one_within (command.Play fences scheme) input status other output written within (misspelled log takes flat is x bad) told more =
+      one_misspelling log (IsPlayed fences) input flat is x bad status other output written
+      (subst (λ (l : Log). PlayAnswer l fences input status output) (sym takes) told)
+      (subst (λ (l : Log). PlayAnswer l fences input other written) (sym takes) more)
+  one_within (command.Image scheme) input status other output written within (plain n) told more = absurd n
+  one_within (command.Image scheme) input status other output written within (breaks_rule one) told more =
+      one_refusal (log_by scheme) (source_of input) status other output written one (of_image_of (log_by scheme) input status output told)
+      (of_image_of (log_by scheme) input other written more)
+  one_within (command.Image scheme) input status other output written within (misspelled log takes flat is x bad) told more =
+      one_misspelling log (IsImageAfter (source_of input)) input flat is x bad status other output written
+      (subst (λ (l : Log). ImageAnswer l input status output) (sym takes) told)
+      (subst (λ (l : Log). ImageAnswer l input other written) (sym takes) more)
   one_within command.Order input status other output written within (plain n) told more = one_order input status other output written told more
   one_within command.Order input status other output written within (breaks_rule one) told more = one_order input status other output written told more
-  one_within command.Order input status other output written within (misspelled takes flat is x bad) told more = absurd takes
+  one_within command.Order input status other output written within (misspelled log takes flat is x bad) told more = absurd takes
   one_within (command.Recover turns) input status other output written within (plain n) told more = absurd n
   one_within (command.Recover turns) input status other output written within (breaks_rule one) told more =
       absurd (not_of_recover turns input status output told one)
-  one_within (command.Recover turns) input status other output written within (misspelled takes flat is x bad) told more = absurd takes
+  one_within (command.Recover turns) input status other output written within (misspelled log takes flat is x bad) told more = absurd takes
   one_within (command.Upgrade turns) input status other output written within (plain n) told more = absurd n
   one_within (command.Upgrade turns) input status other output written within (breaks_rule one) told more =
       absurd (not_of_upgrade turns input status output told one)
-  one_within (command.Upgrade turns) input status other output written within (misspelled takes flat is x bad) told more = absurd takes
+  one_within (command.Upgrade turns) input status other output written within (misspelled log takes flat is x bad) told more = absurd takes
   one_within (command.Make rounds seed) input status other output written within (plain n) told more =
       one_generated rounds seed status other output written told more
   one_within (command.Make rounds seed) input status other output written within (breaks_rule one) told more =
       one_generated rounds seed status other output written told more
-  one_within (command.Make rounds seed) input status other output written within (misspelled takes flat is x bad) told more = absurd takes
-  one_within (command.Seeded seed turns crashes journal) input status other output written within (plain n) told more = absurd n
-  one_within (command.Seeded seed turns crashes journal) input status other output written within (breaks_rule one) told more =
-      one_refusal input status other output written one (of_seeded seed turns crashes journal input status output told)
-      (of_seeded seed turns crashes journal input other written more)
-  one_within (command.Seeded seed turns crashes journal) input status other output written within (misspelled takes flat is x bad) told more = absurd takes
-  one_within (command.Live turns crashes evict journal) input status other output written within (plain n) told more = absurd n
-  one_within (command.Live turns crashes evict journal) input status other output written within (breaks_rule one) told more =
-      one_refusal input status other output written one (of_live turns crashes evict journal input status output told)
-      (of_live turns crashes evict journal input other written more)
-  one_within (command.Live turns crashes evict journal) input status other output written within (misspelled takes flat is x bad) told more = absurd takes
-  one_within (command.Load rounds seed) input status other output written within (plain n) told more = absurd n
-  one_within (command.Load rounds seed) input status other output written within (breaks_rule one) told more =
-      one_refusal (generated_source rounds seed) status other output written one (of_load rounds seed status output told)
-      (of_load rounds seed other written more)
-  one_within (command.Load rounds seed) input status other output written within (misspelled takes flat is x bad) told more = absurd takes
-  one_within command.Sweep input status other output written within (plain n) told more = absurd n
-  one_within command.Sweep input status other output written within (breaks_rule one) told more =
-      one_refusal (source_of input) status other output written one (of_sweep input status output told) (of_sweep input other written more)
-  one_within command.Sweep input status other output written within (misspelled takes flat is x bad) told more =
-      one_missing_sweep input flat is x bad status other output written told more
+  one_within (command.Make rounds seed) input status other output written within (misspelled log takes flat is x bad) told more = absurd takes
+  one_within (command.Seeded seed turns crashes journal scheme) input status other output written within (plain n) told more = absurd n
+  one_within (command.Seeded seed turns crashes journal scheme) input status other output written within (breaks_rule one) told more =
+      one_refusal (log_by scheme) input status other output written one (of_seeded (log_by scheme) seed turns crashes journal input status output told)
+      (of_seeded (log_by scheme) seed turns crashes journal input other written more)
+  one_within (command.Seeded seed turns crashes journal scheme) input status other output written within (misspelled log takes flat is x bad) told more =
+      absurd takes
+  one_within (command.Live turns crashes evict journal scheme) input status other output written within (plain n) told more = absurd n
+  one_within (command.Live turns crashes evict journal scheme) input status other output written within (breaks_rule one) told more =
+      one_refusal (log_by scheme) input status other output written one (of_live (log_by scheme) turns crashes evict journal input status output told)
+      (of_live (log_by scheme) turns crashes evict journal input other written more)
+  one_within (command.Live turns crashes evict journal scheme) input status other output written within (misspelled log takes flat is x bad) told more =
+      absurd takes
+  one_within (command.Load rounds seed scheme) input status other output written within (plain n) told more = absurd n
+  one_within (command.Load rounds seed scheme) input status other output written within (breaks_rule one) told more =
+      one_refusal (log_by scheme) (generated_source rounds seed) status other output written one (of_load (log_by scheme) rounds seed status output told)
+      (of_load (log_by scheme) rounds seed other written more)
+  one_within (command.Load rounds seed scheme) input status other output written within (misspelled log takes flat is x bad) told more = absurd takes
+  one_within (command.Sweep scheme) input status other output written within (plain n) told more = absurd n
+  one_within (command.Sweep scheme) input status other output written within (breaks_rule one) told more =
+      one_refusal (log_by scheme) (source_of input) status other output written one (of_sweep (log_by scheme) input status output told)
+      (of_sweep (log_by scheme) input other written more)
+  one_within (command.Sweep scheme) input status other output written within (misspelled log takes flat is x bad) told more =
+      one_missing_sweep log input flat is x bad status other output written (subst (λ (l : Log). SweepAnswer l input status output) (sym takes) told)
+      (subst (λ (l : Log). SweepAnswer l input other written) (sym takes) more)
   one_within command.Source input status other output written within (plain n) told more = one_source input status other output written told more
   one_within command.Source input status other output written within (breaks_rule one) told more = one_source input status other output written told more
-  one_within command.Source input status other output written within (misspelled takes flat is x bad) told more =
+  one_within command.Source input status other output written within (misspelled log takes flat is x bad) told more =
       one_source input status other output written told more
   one_within command.List input status other output written within (plain n) told more = one_list input status other output written told more
   one_within command.List input status other output written within (breaks_rule one) told more = one_list input status other output written told more
-  one_within command.List input status other output written within (misspelled takes flat is x bad) told more =
+  one_within command.List input status other output written within (misspelled log takes flat is x bad) told more =
       one_list input status other output written told more
 
   one_to_input : (d : c.Command) (input : List ℕ) (status other : ℕ) (output written : List ℕ) → IsUncompiled (Some d) input status →

@@ -20,11 +20,13 @@ use Rattle.compiler_correctness.specs.Images.{variable_words}
 use Rattle.compiler_correctness.specs.Translations.{Translation}
 use Rattle.file_fields.specs.Fields.{Fault, Version, magic_at, number_at, ◌>>=◌}
 use Rattle.file_fields.proofs.Public.{bind_ok, ok_is}
-use Rattle.crash_images.specs.Contents.{Tells, contents}
+use Rattle.crash_images.specs.Contents.{Tells, contents, log_of, number_of}
 use Rattle.crash_images.specs.ImageDecoder.{known, source_at, version_in}
 use Rattle.crash_images.specs.ImageEncoder.{magic}
+use Rattle.log_schemes.specs.Schemes.{locals_of}
+use Rattle.log_schemes.specs.declared.locals.Locals.TheVariants.{Registers}
 use Rattle.crash_images.specs.declared.version.ImageVersion.{ImageVersion}
-use Rattle.crash_images.specs.declared.version.ImageVersion.TheVariants.{First, Second, Third}
+use Rattle.crash_images.specs.declared.version.ImageVersion.TheVariants.{First, Second, Third, Fourth}
 use Rattle.ido_compile.specs.declared.compiler.Compiled.{Compiled}
 use Rattle.ido_compile.specs.declared.error.CompileError.{CompileError}
 use Rattle.ido_compile.specs.declared.error.CompileError.TheVariants as compiling
@@ -107,27 +109,43 @@ module _ (not_both : NotBoth) (bytes : List ℕ) (version : ImageVersion) (c : C
 
 -- ---- There is one life
 
-abbrev chosen : (first second third : Bool) → Result ImageVersion Fault
-chosen first second third =
-    if first then Ok First else if second && nat_le 2 2 then Ok Second else if third && nat_le 3 2 then Ok Third else Err Version
+abbrev chosen : (first second third fourth : Bool) → Result ImageVersion Fault
+chosen first second third fourth =
+    if first then Ok First else if second && nat_le 2 2 then Ok Second else if third && nat_le 3 2 then Ok Third
+    else if fourth && nat_le 4 2 then Ok Fourth else Err Version
 
-not_chosen : (first second third : Bool) → chosen first second third ≡ Ok Third → ⊥
-not_chosen true second third is = absurd (cc is)
-not_chosen false true third is = absurd (cc is)
-not_chosen false false true is = absurd (cc is)
-not_chosen false false false is = absurd (cc is)
+older_chosen : (first second third fourth : Bool) (version : ImageVersion) → chosen first second third fourth ≡ Ok version →
+    number_of version ≤ number_of Second
+older_chosen true second third fourth version is = subst (λ (v : ImageVersion). number_of v ≤ 2) (ok_is First version is) (omega arith)
+older_chosen false true third fourth version is = subst (λ (v : ImageVersion). number_of v ≤ 2) (ok_is Second version is) (omega arith)
+older_chosen false false true true version is = absurd (cc is)
+older_chosen false false true false version is = absurd (cc is)
+older_chosen false false false true version is = absurd (cc is)
+older_chosen false false false false version is = absurd (cc is)
 
-not_third : (bytes : List ℕ) → version_in Second bytes ≡ Ok Third → ⊥
+older_known : (bytes : List ℕ) (version : ImageVersion) → version_in Second bytes ≡ Ok version → number_of version ≤ number_of Second
 unfolding version_in
-not_third bytes is =
-    let a = bind_ok (magic_at (length bytes) magic bytes) (λ after. number_at (length bytes) after >>= λ n. known Second n.0) Third is in
-    let b = bind_ok (number_at (length bytes) a.0) (λ n. known Second n.0) Third a.2 in
-    not_chosen (b.0.0 == 1) (b.0.0 == 2) (b.0.0 == 3) b.2
+older_known bytes version is =
+    let a = bind_ok (magic_at (length bytes) magic bytes) (λ after. number_at (length bytes) after >>= λ n. known Second n.0) version is in
+    let b = bind_ok (number_at (length bytes) a.0) (λ n. known Second n.0) version a.2 in
+    older_chosen (b.0.0 == 1) (b.0.0 == 2) (b.0.0 == 3) (b.0.0 == 4) version b.2
 
-one_life : (version : ImageVersion) (lives : ℕ) → (version ≡ Third → ⊥) → Tells version lives → lives ≡ 1
-one_life First lives other told = told
-one_life Second lives other told = told
-one_life Third lives other told = absurd (other refl)
+one_life : (version : ImageVersion) (lives : ℕ) → number_of version ≤ number_of Second → Tells version lives → lives ≡ 1
+one_life First lives older told = told
+one_life Second lives older told = told
+one_life Third lives older told = absurd (omega (arith, older))
+one_life Fourth lives older told = absurd (omega (arith, older))
+
+in_registers : (version : ImageVersion) → number_of version ≤ number_of Second → locals_of (log_of version) ≡ Registers
+in_registers First older = refl
+in_registers Second older = refl
+in_registers Third older = refl
+in_registers Fourth older = absurd (omega (arith, older))
+
+-- where an older image's locals stand
+pub older_registers : (bytes : List ℕ) (image : Image) → IsImage Second bytes image → locals_of image.compiled.translated.object.log ≡ Registers
+older_registers bytes image is =
+    ap locals_of is.is.source.compiled.translated.log ∙ in_registers is.version (older_known bytes is.version is.is.source.known)
 
 none_long : {A : Type 0} (xs : List A) → length xs ≡ 0 → xs ≡ []
 none_long [] none = refl
@@ -135,8 +153,7 @@ none_long (x ∷ xs) none = absurd (omega (arith, none))
 
 pub older_alone : (bytes : List ℕ) (image : Image) → IsImage Second bytes image → image.lives.earlier.items ≡ []
 older_alone bytes image is =
-    let one = one_life is.version (length is.state.lives)
-    (λ third. not_third bytes (subst (λ (v : ImageVersion). version_in Second bytes ≡ Ok v) third is.is.source.known)) is.is.after.fits.lives in
+    let one = one_life is.version (length is.state.lives) (older_known bytes is.version is.is.source.known) is.is.after.fits.lives in
     none_long image.lives.earlier.items
     (omega (
       arith,

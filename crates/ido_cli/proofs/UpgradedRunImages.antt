@@ -1,5 +1,5 @@
 -- What `upgrade` says of the image of a run.
-use Rattle.std.proofs.Common.{◌≡◌, ◌≢◌, refl, ℕ, ◌≤◌, List, ap, sym, subst, ◌∙◌, arith, Result, Ok, Err, Some}
+use Rattle.std.proofs.Common.{◌≡◌, ℕ, ◌≤◌, List, ap, sym, subst, ◌∙◌, arith, Result, Ok, Err, Some}
 use Rattle.std.specs.Prelude.{codes}
 use Rattle.std.proofs.lemmas.Option.{none-some, same_Some}
 use Rattle.machine_events.specs.declared.event.Event.{Event}
@@ -7,7 +7,7 @@ use Rattle.compiler_correctness.specs.Images as files
 use Rattle.compiler_correctness.specs.Translations.{Translation}
 use Rattle.crash_images.specs.Contents.{log_of, number_of}
 use Rattle.crash_images.specs.declared.version.ImageVersion.{ImageVersion}
-use Rattle.crash_images.specs.declared.version.ImageVersion.TheVariants.{First, Second, Third}
+use Rattle.crash_images.specs.declared.version.ImageVersion.TheVariants.{Second}
 use Rattle.crash_simulation.specs.AccountRelation.{MachinesResume}
 use Rattle.compiler_correctness.specs.Laws.{MachinesRecord}
 use Rattle.ido_compile.specs.CompileAnswers.{translation_in}
@@ -30,14 +30,9 @@ use Rattle.ido_cli.specs.Upgrades.{IsOlderFault, IsUpgrade, IsUpgradedRun, elsew
 use Rattle.ido_cli.proofs.RecoveredImages.{file_again}
 use Rattle.ido_cli.proofs.RunImageAnswers.{run_image_source, run_images_are_read}
 
-older : (version : ImageVersion) → version ≢ Third → number_of version ≤ number_of Second
-older First other = omega arith
-older Second other = omega arith
-older Third other = absurd (other refl)
-
 module _ (one_flat : OneFlat) (not_both : NotBoth) (machines : MachinesResume) (records : MachinesRecord) (no_fault : RunsLeaveNoFault)
     (references : RunsLeaveReferences) (version : ImageVersion) (source input : List ℕ) (c : Translation) (before : List Event) (turns status : ℕ)
-    (output : List ℕ) (before_newest : version ≢ Third) (is : IsRunImage version source c before input) where
+    (output : List ℕ) (older : number_of version ≤ number_of Second) (is : IsRunImage version source c before input) where
   abbrev Upgraded : Type 0
   Upgraded = IsUpgradedRun (log_of version) source c before turns status output
 
@@ -46,12 +41,12 @@ module _ (one_flat : OneFlat) (not_both : NotBoth) (machines : MachinesResume) (
 
   read : (result : Result Image ImageError) → IsImageAnswer Second input result → Read result
   read result told =
-      run_images_are_read one_flat not_both machines records no_fault references Second version source input c before result (older version before_newest) is
+      run_images_are_read one_flat not_both machines records no_fault references Second version source input c before result older is
       told
 
   source_same : (v : ImageVersion) (d : Compiled) (b : BeginsCompiled Second input v d) → b.source ≡ source
   source_same v d b =
-      run_image_source one_flat not_both machines records no_fault references Second version (older version before_newest) source input c before is v d b
+      run_image_source one_flat not_both machines records no_fault references Second version older source input c before is v d b
 
   not_read : (error : ImageError) → status ≡ 6 → image_line error ≡ Some output → Read (Err error) → Upgraded
   not_read error six told (reads.elsewhere d x of differs fault) = elsewhere d x of differs fault six told
@@ -77,5 +72,5 @@ module _ (one_flat : OneFlat) (not_both : NotBoth) (machines : MachinesResume) (
       is_read image text (sym older.source_is ∙ source_same older.is.version image.compiled older.is.is.source) upgrade (read (Ok image) (whole image older.is))
 
 pub run_images_are_upgraded : OneFlat → NotBoth → MachinesResume → MachinesRecord → RunsLeaveNoFault → RunsLeaveReferences → RunImagesAreUpgraded
-run_images_are_upgraded one_flat not_both machines records no_fault references version source image c before turns status output other is told =
-    by one_flat not_both machines records no_fault references version source image c before turns status output other is told
+run_images_are_upgraded one_flat not_both machines records no_fault references version source image c before turns status output older is told =
+    by one_flat not_both machines records no_fault references version source image c before turns status output older is told

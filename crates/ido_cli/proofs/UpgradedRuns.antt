@@ -13,6 +13,8 @@ use Rattle.log_schemes.specs.declared.size.LogSize.{LogSize}
 use Rattle.log_schemes.specs.declared.size.LogSize.TheVariants.{Lines16, Lines32}
 use Rattle.log_schemes.specs.Schemes.{lines_of, size_of as log_size}
 use Rattle.flat_compile.specs.TranslatedForms.{command_log}
+use Rattle.log_schemes.specs.Schemes.{locals_of}
+use Rattle.log_schemes.specs.declared.locals.Locals.TheVariants.{Registers}
 use Rattle.ido_base.specs.declared.place.Place.{Place}
 use Rattle.ido_base.specs.Layout.{aligned_up, end_from, spread_words, variable_lines}
 use Rattle.log_schemes.specs.Layout.{log_words, word_count}
@@ -49,7 +51,7 @@ use Rattle.ido_compile.specs.Verdicts.{NotBoth, OneFlat}
 use Rattle.crash_images.specs.Contents.{Contents, State, log_of, word_bytes}
 use Rattle.crash_images.specs.ImageDecoder.{IsReadAs, image_at, logs_at, source_at, state_at, variables_at, version_in}
 use Rattle.crash_images.specs.declared.version.ImageVersion.{ImageVersion}
-use Rattle.crash_images.specs.declared.version.ImageVersion.TheVariants.{Second, Third}
+use Rattle.crash_images.specs.declared.version.ImageVersion.TheVariants.{Second, Third, Fourth}
 use Rattle.crash_images.proofs.Public.{source_version, state_in_parts}
 use Rattle.image_checks.specs.declared.error.ImageError.{ImageError}
 use Rattle.image_checks.specs.declared.error.ImageError.TheVariants as e
@@ -132,7 +134,8 @@ settled_out source c w kept output (renewed settled fits done told read) = (sett
 -- ---- An image of a settled world, read again
 
 module _ (one_flat : OneFlat) (never_both : NotBoth) (output source : List ℕ) (made : Compiled)
-    (version : ImageVersion) (compiled : IsCompiledAs (log_of version) source made) (again : Compiled) (accepted : IsCompiledAs command_log source again) (w : World)
+    (version : ImageVersion) (compiled : IsCompiledAs (log_of version) source made) (again : Compiled)
+    (accepted : IsCompiledAs command_log source again) (w : World)
     (right : AreReferences (flat_of made.flat) (take (variable_words (translation_in made)) (map durable_value w.words)))
     (long : variable_words (translation_in made) ≤ length w.words) (kept : List (List ℕ)) (fits : sum_by length kept ≤ MOST_STEPS)
     (runs : runs_lives (flat_of made.flat) (start (flat_of made.flat)) kept ≡ true) (settled : is_settled w ≡ true)
@@ -196,16 +199,16 @@ module _ (one_flat : OneFlat) (never_both : NotBoth) (output source : List ℕ) 
         logs = parts.2;
       }
 
-  known : version_in Third output ≡ Ok Third
-  known = source_version Third Third output source begun.rest (omega arith) begun.begins
+  known : version_in Fourth output ≡ Ok Third
+  known = source_version Fourth Third output source begun.rest (omega arith) begun.begins
 
   -- what is so of images of the newest version is so of this one
-  at_third : (P : ImageVersion → Type 0) (v : ImageVersion) → version_in Third output ≡ Ok v → P Third → P v
+  at_third : (P : ImageVersion → Type 0) (v : ImageVersion) → version_in Fourth output ≡ Ok v → P Third → P v
   at_third P v is third = subst P (ok_is Third v (sym known ∙ is)) third
 
   -- ---- The source, compiled
 
-  module _ (d : Compiled) (b : BeginsCompiled Third output Third d) where
+  module _ (d : Compiled) (b : BeginsCompiled Fourth output Third d) where
     same_bytes : ◌≡◌ {A = List ℕ × List ℕ} (b.source, b.rest) (source, begun.rest)
     same_bytes = ok_is (b.source, b.rest) (source, begun.rest) (sym b.begins ∙ begun.begins)
 
@@ -243,7 +246,7 @@ module _ (one_flat : OneFlat) (never_both : NotBoth) (output source : List ℕ) 
     right_here : AreReferences (flat_of d.flat) variables
     right_here = subst (λ (x : Flat). AreReferences x variables) (sym same_flat) right
 
-  state_is : (d : Compiled) (x : State) (has : HasState Third output Third d x) → x ≡ state
+  state_is : (d : Compiled) (x : State) (has : HasState Fourth output Third d x) → x ≡ state
   state_is d x has =
       let b = has.source in
       one_after (flat_of d.flat) Third (length output) (size_of d) (threads_of d) b.rest state x begun.after (found_variables d b) (found_logs d b) has.after
@@ -256,12 +259,12 @@ module _ (one_flat : OneFlat) (never_both : NotBoth) (output source : List ℕ) 
       (idle_state_sound command_log (log_words command_log * threads) (flat_of d.flat) d.translated.resumes.items variables kept fits
       (subst (λ (x : Flat). runs_lives x (start x) kept ≡ true) (sym same) runs))
 
-  not_here : (v : ImageVersion) (fault : Fault) → version_in Third output ≡ Ok v → source_at v output ≡ Err fault → ⊥
+  not_here : (v : ImageVersion) (fault : Fault) → version_in Fourth output ≡ Ok v → source_at v output ≡ Err fault → ⊥
   not_here v fault is =
       at_third (λ (x : ImageVersion). source_at x output ≡ Err fault → ⊥) v is
       (λ err. not_both_ways (source_at Third output) (source, begun.rest) fault begun.begins err)
 
-  not_refused : (v : ImageVersion) (other rest : List ℕ) (rule : Rule) (place : Place) → version_in Third output ≡ Ok v →
+  not_refused : (v : ImageVersion) (other rest : List ℕ) (rule : Rule) (place : Place) → version_in Fourth output ≡ Ok v →
       source_at v output ≡ Ok (other, rest) → IsRefusedAs (log_of v) other rule place → ⊥
   not_refused v other rest rule place is =
       at_third (λ (x : ImageVersion). source_at x output ≡ Ok (other, rest) → IsRefusedAs (log_of x) other rule place → ⊥) v is
@@ -270,25 +273,25 @@ module _ (one_flat : OneFlat) (never_both : NotBoth) (output source : List ℕ) 
       never_both command_log source (flat_of again.flat) rule place accepted.accepted
       (subst (λ (text : List ℕ). IsRefusedAs command_log text rule place) (ap (λ (x : List ℕ × List ℕ). x.0) same) broken))
 
-  not_after : (v : ImageVersion) (d : Compiled) (begins : BeginsCompiled Third output v d) (error : ImageError) →
+  not_after : (v : ImageVersion) (d : Compiled) (begins : BeginsCompiled Fourth output v d) (error : ImageError) →
       IsFaultAfter (flat_of d.flat) v (length output) (size_of d) (threads_of d) begins.rest error → ⊥
   not_after v d begins error =
-      at_third (λ (x : ImageVersion). (b : BeginsCompiled Third output x d) →
+      at_third (λ (x : ImageVersion). (b : BeginsCompiled Fourth output x d) →
       IsFaultAfter (flat_of d.flat) x (length output) (size_of d) (threads_of d) b.rest error → ⊥) v begins.known
       (λ b fault. none_after (flat_of d.flat) Third (length output) (size_of d) (threads_of d) b.rest state begun.after error (found_variables d b)
       (right_here d b) (found_logs d b) fault) begins
 
-  not_unsound : (v : ImageVersion) (d : Compiled) (x : State) (error : ImageError) → HasState Third output v d x →
+  not_unsound : (v : ImageVersion) (d : Compiled) (x : State) (error : ImageError) → HasState Fourth output v d x →
       IsStateFault (log_of v) (flat_of d.flat) d.translated.resumes.items x error → ⊥
   not_unsound v d x error has =
-      at_third (λ (y : ImageVersion). HasState Third output y d x → IsStateFault (log_of y) (flat_of d.flat) d.translated.resumes.items x error → ⊥)
+      at_third (λ (y : ImageVersion). HasState Fourth output y d x → IsStateFault (log_of y) (flat_of d.flat) d.translated.resumes.items x error → ⊥)
       v has.source.known
       (λ at fault. sound d (same_flat d at.source) error
       (subst (λ (z : State). IsStateFault command_log (flat_of d.flat) d.translated.resumes.items z error) (state_is d x at) fault)) has
 
   -- whatever is told of the bytes as a fault, is want of memory
-  none_told : (error : ImageError) → IsImageAnswer Third output (Err error) → error ≡ e.Memory
-  none_told error (no_version fault err) = absurd (not_both_ways (version_in Third output) Third fault known err)
+  none_told : (error : ImageError) → IsImageAnswer Fourth output (Err error) → error ≡ e.Memory
+  none_told error (no_version fault err) = absurd (not_both_ways (version_in Fourth output) Third fault known err)
   none_told error (no_source v fault is err) = absurd (not_here v fault is err)
   none_told error (refused v other rest rule place is begins broken) = absurd (not_refused v other rest rule place is begins broken)
   none_told error (no_state v d fault begins wrong) = absurd (not_after v d begins fault wrong)
@@ -297,15 +300,18 @@ module _ (one_flat : OneFlat) (never_both : NotBoth) (output source : List ℕ) 
 
   -- ---- The run from it, which makes no event
 
-  module _ (image : Image) (is : IsImage Third output image) where
+  module _ (image : Image) (is : IsImage Fourth output image) where
     abbrev d : Compiled
     d = image.compiled
 
     abbrev it : Translation
     it = translation_in d
 
-    has : HasState Third output Third d is.state
-    has = subst (λ (v : ImageVersion). HasState Third output v d is.state) (sym (ok_is Third is.version (sym known ∙ is.is.source.known))) is.is
+    has : HasState Fourth output Third d is.state
+    has = subst (λ (v : ImageVersion). HasState Fourth output v d is.state) (sym (ok_is Third is.version (sym known ∙ is.is.source.known))) is.is
+
+    registers : locals_of d.translated.object.log ≡ Registers
+    registers = ap locals_of has.source.compiled.translated.log
 
     same_form : flat_of d.flat ≡ flat
     same_form = same_flat d has.source
@@ -394,7 +400,7 @@ module _ (one_flat : OneFlat) (never_both : NotBoth) (output source : List ℕ) 
         let of_form = subst (λ (x : Flat). IsReport (machine_state x first kept) status report) same_form of_lives in
         subst (λ (s : r.ReportedState). IsReport s status report) same_reports of_form
 
-  not_told : (status : ℕ) (report : List ℕ) (error : ImageError) → IsImageAnswer Third output (Err error) → image_line error ≡ Some report → ⊥
+  not_told : (status : ℕ) (report : List ℕ) (error : ImageError) → IsImageAnswer Fourth output (Err error) → image_line error ≡ Some report → ⊥
   not_told status report error told line =
       let none : image_line e.Memory ≡ Some report = subst (λ (x : ImageError). image_line x ≡ Some report) (none_told error told) line in
       none-some report none
@@ -483,7 +489,9 @@ upgrades_go_on one_flat never_both references crashes go_on input output image s
     let v = older.is.version in
     let compiled = subst (λ (text : List ℕ). IsCompiledAs (log_of v) text made) older.source_is older.is.is.source.compiled in
     let resumed = subst (λ (file : files.Image). IsResumedAsKept c (image_in c file) u.journal) (sym same) (compiled.compilation.files before u.journal) in
-    accepted_goes_on go_on Third output read (whole read is)
-    (settled_image one_flat never_both output source made v compiled older.again older.accepted w
-    (came_right input image older.is u.journal references crashes before same) (came_long input image older.is u.journal) kept out.1 resumed.runs out.0 out.2
-    read is (resumed.between out.0) (resumed.variables out.0)) events
+    let right = came_right input image older.is u.journal references crashes before same in
+    let long = came_long input image older.is u.journal in
+    accepted_goes_on go_on Fourth output read (whole read is)
+    (registers one_flat never_both output source made v compiled older.again older.accepted w right long kept out.1 resumed.runs out.0 out.2 read is)
+    (settled_image one_flat never_both output source made v compiled older.again older.accepted w right long kept out.1 resumed.runs out.0 out.2 read is
+    (resumed.between out.0) (resumed.variables out.0)) events

@@ -5,6 +5,9 @@ use Rattle.ido_base.specs.declared.place.Place.{Place}
 use Rattle.ido_base.specs.declared.limits.TheConstants.{MOST_INPUT_BYTES, MOST_SOURCE_BYTES}
 use Rattle.ido_outside.specs.Causes.{Rose}
 use Rattle.ido_outside.specs.Sink.{Adds, AddsPrefix}
+use Rattle.log_schemes.specs.Schemes.{locals_of}
+use Rattle.log_schemes.specs.declared.locals.Locals.TheVariants.{Registers}
+use Rattle.log_schemes.specs.declared.log.Log.{Log}
 use Rattle.c_tree.specs.Flats as f
 use Rattle.c_tree.specs.declared.rule.Rule as r
 use Rattle.ido_compile.specs.LoggedTexts.{IsAcceptedAs, IsRefusedAs}
@@ -14,7 +17,7 @@ use Rattle.compiler_correctness.specs.Images.{Image, image_in}
 use Rattle.compiler_correctness.specs.WordRuns.{RunsOn}
 use Rattle.file_fields.specs.Fields as fields
 use Rattle.image_checks.specs.declared.error.ImageError.{ImageError}
-use Rattle.crash_images.specs.declared.version.ImageVersion.TheVariants.{Third}
+use Rattle.crash_images.specs.declared.version.ImageVersion.TheVariants.{Fourth}
 use Rattle.ido_cli.specs.declared.compiled_image.Image as i
 use Rattle.ido_cli.specs.CompiledImages.{IsImageAnswer}
 use Rattle.lock_order.specs.LockOrder.{OrderFault, order_fault}
@@ -41,6 +44,7 @@ use Rattle.ido_cli.specs.Refusals.{IsRefusedAt, code_of, fault_code, fault_place
 use Rattle.ido_cli.specs.Refusals.{object_fault_code, object_fault_place, script_fault_code, script_fault_place}
 use Rattle.ido_cli.specs.Regions.{IsListing}
 use Rattle.ido_cli.specs.Runs.{RunAnswer}
+use Rattle.ido_cli.specs.Schemes.{log_by}
 use Rattle.ido_cli.specs.Sweeps.{SweptScript}
 use Rattle.ido_cli.specs.ThreadedRuns.{AreLegs, IsLoadedRun, evictions_by, most_leg_events}
 use Rattle.ido_cli.specs.Upgrades.{IsOlderFault, IsOlderImage, IsUpgrade}
@@ -51,20 +55,20 @@ abbrev pub IsSourcePastLimits : (input : List ℕ) → Type 0
 IsSourcePastLimits input = (MOST_INPUT_BYTES < length input) ⊎ (MOST_SOURCE_BYTES < length (source_of input))
 
 abbrev pub IsPastLimits : Command → (input : List ℕ) → Type 0
-IsPastLimits command.Compile input = MOST_SOURCE_BYTES < length input
+IsPastLimits (command.Compile scheme) input = MOST_SOURCE_BYTES < length input
 IsPastLimits (command.Regions least) input = MOST_SOURCE_BYTES < length input
-IsPastLimits (command.Play fences) input = IsSourcePastLimits input
+IsPastLimits (command.Play fences scheme) input = IsSourcePastLimits input
 IsPastLimits command.Source input = IsSourcePastLimits input
 IsPastLimits command.List input = MOST_INPUT_BYTES < length input
-IsPastLimits command.Image input = IsSourcePastLimits input
+IsPastLimits (command.Image scheme) input = IsSourcePastLimits input
 IsPastLimits command.Order input = MOST_SOURCE_BYTES < length input
 IsPastLimits (command.Recover turns) input = MOST_INPUT_BYTES < length input
 IsPastLimits (command.Upgrade turns) input = MOST_INPUT_BYTES < length input
 IsPastLimits (command.Make rounds seed) input = ⊥
-IsPastLimits (command.Seeded seed turns crashes journal) input = MOST_SOURCE_BYTES < length input
-IsPastLimits (command.Live turns crashes evict journal) input = MOST_SOURCE_BYTES < length input
-IsPastLimits (command.Load rounds seed) input = ⊥
-IsPastLimits command.Sweep input = IsSourcePastLimits input
+IsPastLimits (command.Seeded seed turns crashes journal scheme) input = MOST_SOURCE_BYTES < length input
+IsPastLimits (command.Live turns crashes evict journal scheme) input = MOST_SOURCE_BYTES < length input
+IsPastLimits (command.Load rounds seed scheme) input = ⊥
+IsPastLimits (command.Sweep scheme) input = IsSourcePastLimits input
 
 -- a status and an output: `refused` and what is refused
 abbrev pub Refuses : (refused status : ℕ) → (what output : List ℕ) → Type 0
@@ -87,12 +91,12 @@ pub data SourceAnswer (input : List ℕ) (status : ℕ) (output : List ℕ) : Ty
 
 -- ---- `compile`
 
--- what a source is answered: the bytes of the object of a compilation
-pub data CompileAnswer (source : List ℕ) (status : ℕ) (output : List ℕ) : Type 0 where
-  uncompiled : (found : r.Rule) (place : Place) → IsRefusedAs command_log source found place → IsRefusedAt 1 (code_of found) source place.0 status output →
-      CompileAnswer source status output
-  compiled : (flat : f.Flat) → IsAcceptedAs command_log source flat → (c : Translation) (is : IsTranslationOf flat c) → status ≡ 0 →
-      output ≡ spelling (contents_of is.object) → CompileAnswer source status output
+-- what a source is answered: the bytes of the object of a compilation for this log
+pub data CompileAnswer (log : Log) (source : List ℕ) (status : ℕ) (output : List ℕ) : Type 0 where
+  uncompiled : (found : r.Rule) (place : Place) → IsRefusedAs log source found place → IsRefusedAt 1 (code_of found) source place.0 status output →
+      CompileAnswer log source status output
+  compiled : (flat : f.Flat) → IsAcceptedAs log source flat → (c : Translation) (is : IsTranslationOf log flat c) → status ≡ 0 →
+      output ≡ spelling (contents_of is.object) → CompileAnswer log source status output
 
 -- ---- `regions`
 
@@ -100,7 +104,7 @@ pub data CompileAnswer (source : List ℕ) (status : ℕ) (output : List ℕ) : 
 pub data RegionsAnswer (least : Bool) (source : List ℕ) (status : ℕ) (output : List ℕ) : Type 0 where
   uncut : (found : r.Rule) (place : Place) → IsRefusedAs command_log source found place → IsRefusedAt 1 (code_of found) source place.0 status output →
       RegionsAnswer least source status output
-  cut : (flat : f.Flat) → IsAcceptedAs command_log source flat → (c : Translation) → IsTranslationOf flat c → status ≡ 0 →
+  cut : (flat : f.Flat) → IsAcceptedAs command_log source flat → (c : Translation) → IsTranslationOf command_log flat c → status ≡ 0 →
       IsListing least source flat c.boundaries output → RegionsAnswer least source status output
 
 -- ---- `order`
@@ -116,41 +120,41 @@ pub data OrderAnswer (source : List ℕ) (status : ℕ) (output : List ℕ) : Ty
 
 -- ---- `play` and `image`
 
--- what an input of a source and a script is answered, by what is to be said of a translation and the script's events
-pub data ScriptedAnswer (Says : Translation → List Event → (status : ℕ) → (output : List ℕ) → Type 0) (input : List ℕ) (status : ℕ)
+-- what an input of a source and a script is answered, by what is to be said of a translation for this log and the script's events
+pub data ScriptedAnswer (log : Log) (Says : Translation → List Event → (status : ℕ) → (output : List ℕ) → Type 0) (input : List ℕ) (status : ℕ)
     (output : List ℕ) : Type 0 where
-  unplayed : (found : r.Rule) (place : Place) → IsRefusedAs command_log (source_of input) found place →
-      IsRefusedAt 1 (code_of found) (source_of input) place.0 status output → ScriptedAnswer Says input status output
-  no_script : (flat : f.Flat) → IsAcceptedAs command_log (source_of input) flat → (x : e.Fault) →
-      e.read command_log (length flat.threads) (rest_of input) ≡ e.Refused x →
-      IsRefusedAt 6 (script_fault_code x) input (rest_begins input + script_fault_place x) status output → ScriptedAnswer Says input status output
-  of_script : (flat : f.Flat) → IsAcceptedAs command_log (source_of input) flat → (lines : List e.Line) →
-      e.read command_log (length flat.threads) (rest_of input) ≡ e.Lines lines →
-      (c : Translation) → IsTranslationOf flat c →
+  unplayed : (found : r.Rule) (place : Place) → IsRefusedAs log (source_of input) found place →
+      IsRefusedAt 1 (code_of found) (source_of input) place.0 status output → ScriptedAnswer log Says input status output
+  no_script : (flat : f.Flat) → IsAcceptedAs log (source_of input) flat → (x : e.Fault) →
+      e.read log (length flat.threads) (rest_of input) ≡ e.Refused x →
+      IsRefusedAt 6 (script_fault_code x) input (rest_begins input + script_fault_place x) status output → ScriptedAnswer log Says input status output
+  of_script : (flat : f.Flat) → IsAcceptedAs log (source_of input) flat → (lines : List e.Line) →
+      e.read log (length flat.threads) (rest_of input) ≡ e.Lines lines →
+      (c : Translation) → IsTranslationOf log flat c →
       ScriptAnswer c (Says c) (record { lines = lines; input = input; begins = rest_begins input }) status output →
-      ScriptedAnswer Says input status output
+      ScriptedAnswer log Says input status output
 
 -- the report of the script's run, and the fences of each hart, where that is asked
-abbrev pub PlayAnswer : (fences : Bool) → (input : List ℕ) → (status : ℕ) → (output : List ℕ) → Type 0
-PlayAnswer fences input status output = ScriptedAnswer (IsPlayed fences) input status output
+abbrev pub PlayAnswer : Log → (fences : Bool) → (input : List ℕ) → (status : ℕ) → (output : List ℕ) → Type 0
+PlayAnswer log fences input status output = ScriptedAnswer log (IsPlayed fences) input status output
 
 -- the bytes of the image that a crash after the run would leave: it tells all lives
-abbrev pub ImageAnswer : (input : List ℕ) → (status : ℕ) → (output : List ℕ) → Type 0
-ImageAnswer input status output = ScriptedAnswer (IsImageAfter (source_of input)) input status output
+abbrev pub ImageAnswer : Log → (input : List ℕ) → (status : ℕ) → (output : List ℕ) → Type 0
+ImageAnswer log input status output = ScriptedAnswer log (IsImageAfter (source_of input)) input status output
 
 -- ---- `sweep`
 
--- what an input of a source and a script is answered
-pub data SweepAnswer (input : List ℕ) (status : ℕ) (output : List ℕ) : Type 0 where
-  unswept : (found : r.Rule) (place : Place) → IsRefusedAs command_log (source_of input) found place →
-      IsRefusedAt 1 (code_of found) (source_of input) place.0 status output → SweepAnswer input status output
-  no_points : (flat : f.Flat) → IsAcceptedAs command_log (source_of input) flat → (x : e.Fault) →
-      e.read command_log (length flat.threads) (rest_of input) ≡ e.Refused x →
-      IsRefusedAt 6 (script_fault_code x) input (rest_begins input + script_fault_place x) status output → SweepAnswer input status output
-  of_points : (flat : f.Flat) → IsAcceptedAs command_log (source_of input) flat → (lines : List e.Line) →
-      e.read command_log (length flat.threads) (rest_of input) ≡ e.Lines lines →
-      (c : Translation) → IsTranslationOf flat c → SweptScript c (record { lines = lines; input = input; begins = rest_begins input }) status output →
-      SweepAnswer input status output
+-- what an input of a source and a script is answered, compiled for this log
+pub data SweepAnswer (log : Log) (input : List ℕ) (status : ℕ) (output : List ℕ) : Type 0 where
+  unswept : (found : r.Rule) (place : Place) → IsRefusedAs log (source_of input) found place →
+      IsRefusedAt 1 (code_of found) (source_of input) place.0 status output → SweepAnswer log input status output
+  no_points : (flat : f.Flat) → IsAcceptedAs log (source_of input) flat → (x : e.Fault) →
+      e.read log (length flat.threads) (rest_of input) ≡ e.Refused x →
+      IsRefusedAt 6 (script_fault_code x) input (rest_begins input + script_fault_place x) status output → SweepAnswer log input status output
+  of_points : (flat : f.Flat) → IsAcceptedAs log (source_of input) flat → (lines : List e.Line) →
+      e.read log (length flat.threads) (rest_of input) ≡ e.Lines lines →
+      (c : Translation) → IsTranslationOf log flat c → SweptScript c (record { lines = lines; input = input; begins = rest_begins input }) status output →
+      SweepAnswer log input status output
 
 -- ---- What is told of a run
 
@@ -161,34 +165,35 @@ IsTold true source c events status output = (status ≡ 0) × (output ≡ journa
 
 -- ---- `seeded`
 
--- what a source is answered, of a drawn run of it
-pub data SeededAnswer (seed turns : ℕ) (crashes : List ℕ) (journal : Bool) (source : List ℕ) (status : ℕ) (output : List ℕ) : Type 0 where
-  undrawn : (found : r.Rule) (place : Place) → IsRefusedAs command_log source found place → IsRefusedAt 1 (code_of found) source place.0 status output →
-      SeededAnswer seed turns crashes journal source status output
-  drawn : (flat : f.Flat) → IsAcceptedAs command_log source flat → (c : Translation) → IsTranslationOf flat c →
+-- what a source is answered, of a drawn run of it, compiled for this log
+pub data SeededAnswer (log : Log) (seed turns : ℕ) (crashes : List ℕ) (journal : Bool) (source : List ℕ) (status : ℕ) (output : List ℕ) : Type 0 where
+  undrawn : (found : r.Rule) (place : Place) → IsRefusedAs log source found place → IsRefusedAt 1 (code_of found) source place.0 status output →
+      SeededAnswer log seed turns crashes journal source status output
+  drawn : (flat : f.Flat) → IsAcceptedAs log source flat → (c : Translation) → IsTranslationOf log flat c →
       IsTold journal source c (drawn_by c seed turns crashes) status output →
-      SeededAnswer seed turns crashes journal source status output
+      SeededAnswer log seed turns crashes journal source status output
 
 -- ---- `live` and `load`
 
--- what a source is answered, of a run of it on threads: for each crash word a leg and a crash, and a leg after them. The seed, where there is one, draws
--- the evictions of all legs.
-pub data LiveAnswer (turns : ℕ) (crashes : List ℕ) (evict : Option ℕ) (journal : Bool) (source : List ℕ) (status : ℕ) (output : List ℕ) : Type 0 where
-  unrun : (found : r.Rule) (place : Place) → IsRefusedAs command_log source found place → IsRefusedAt 1 (code_of found) source place.0 status output →
-      LiveAnswer turns crashes evict journal source status output
-  ran : (flat : f.Flat) → IsAcceptedAs command_log source flat → (c : Translation) → IsTranslationOf flat c → (events : List Event) →
+-- what a source is answered, of a run of it on threads, compiled for this log: for each crash word a leg and a crash, and a leg after them. The seed, where
+-- there is one, draws the evictions of all legs.
+pub data LiveAnswer (log : Log) (turns : ℕ) (crashes : List ℕ) (evict : Option ℕ) (journal : Bool) (source : List ℕ) (status : ℕ) (output : List ℕ) :
+    Type 0 where
+  unrun : (found : r.Rule) (place : Place) → IsRefusedAs log source found place → IsRefusedAt 1 (code_of found) source place.0 status output →
+      LiveAnswer log turns crashes evict journal source status output
+  ran : (flat : f.Flat) → IsAcceptedAs log source flat → (c : Translation) → IsTranslationOf log flat c → (events : List Event) →
       AreLegs (beginning c) turns (evictions_by c evict) crashes [] events → IsTold journal source c events status output →
-      LiveAnswer turns crashes evict journal source status output
+      LiveAnswer log turns crashes evict journal source status output
 
--- What is answered of the source that two numbers give, and of a run of it on threads. The source breaks no rule, so there is no status 1. Its threads take
--- locks in their order, so some hart can step until all have stopped (`laws::ordered_lives_go_on`). Where some hart isn't settled in the end, there are as many
--- events as there may be.
-pub record LoadAnswer (rounds seed : ℕ) (status : ℕ) (output : List ℕ) : Type 0 where
+-- What is answered of the source that two numbers give, and of a run of it on threads, compiled for this log. The source breaks no rule, so there is no
+-- status 1. Its threads take locks in their order, so some hart can step until all have stopped (`laws::ordered_lives_go_on`). Where some hart isn't settled
+-- in the end, there are as many events as there may be.
+pub record LoadAnswer (log : Log) (rounds seed : ℕ) (status : ℕ) (output : List ℕ) : Type 0 where
   pub flat : f.Flat
-  pub accepted : IsAcceptedAs command_log (generated_source rounds seed) flat
+  pub accepted : IsAcceptedAs log (generated_source rounds seed) flat
   pub in_order : order_fault flat ≡ None
   pub translation : Translation
-  pub translated : IsTranslationOf flat translation
+  pub translated : IsTranslationOf log flat translation
   pub events : List Event
   pub run : IsLoadedRun (beginning translation) events
   pub summary : IsSummaryOf translation events status output
@@ -200,13 +205,14 @@ pub record LoadAnswer (rounds seed : ℕ) (status : ℕ) (output : List ℕ) : T
 abbrev pub file_in : i.Image → Image
 file_in image = record { words = image.words.items; kept = lives_in image.lives.earlier.items image.lives.schedule.items }
 
--- What an input of an image is answered: its first fault, or what is said of a run that goes on from it. Whoever wrote the image, that run is never stuck,
--- its delays are bounded, and no hart waits that takes its locks.
+-- What an input of an image is answered: its first fault, or what is said of a run that goes on from it. Where locals stand in registers, that run is never
+-- stuck, its delays are bounded, and no hart waits that takes its locks, whoever wrote the image.
 pub data RecoverAnswer (turns : ℕ) (input : List ℕ) (status : ℕ) (output : List ℕ) : Type 0 where
-  no_image : (error : ImageError) → IsImageAnswer Third input (Err error) → status ≡ 6 → image_line error ≡ Some output →
+  no_image : (error : ImageError) → IsImageAnswer Fourth input (Err error) → status ≡ 6 → image_line error ≡ Some output →
       RecoverAnswer turns input status output
-  of_image : (image : i.Image) → IsImageAnswer Third input (Ok image) →
-      RunsOn (translation_in image.compiled) (image_in (translation_in image.compiled) (file_in image)) →
+  of_image : (image : i.Image) → IsImageAnswer Fourth input (Ok image) →
+      (locals_of image.compiled.translated.object.log ≡ Registers →
+      RunsOn (translation_in image.compiled) (image_in (translation_in image.compiled) (file_in image))) →
       IsRecovery (translation_in image.compiled) (file_in image) turns status output → RecoverAnswer turns input status output
 
 -- ---- `upgrade`
@@ -231,20 +237,22 @@ pub data ListAnswer (input : List ℕ) (status : ℕ) (output : List ℕ) : Type
 
 -- what an input within the limits is answered
 abbrev pub CommandAnswer : Command → (input : List ℕ) → (status : ℕ) → (output : List ℕ) → Type 0
-CommandAnswer command.Compile input status output = CompileAnswer input status output
+CommandAnswer (command.Compile scheme) input status output = CompileAnswer (log_by scheme) input status output
 CommandAnswer (command.Regions least) input status output = RegionsAnswer least input status output
-CommandAnswer (command.Play fences) input status output = PlayAnswer fences input status output
+CommandAnswer (command.Play fences scheme) input status output = PlayAnswer (log_by scheme) fences input status output
 CommandAnswer command.Source input status output = SourceAnswer input status output
 CommandAnswer command.List input status output = ListAnswer input status output
-CommandAnswer command.Image input status output = ImageAnswer input status output
+CommandAnswer (command.Image scheme) input status output = ImageAnswer (log_by scheme) input status output
 CommandAnswer command.Order input status output = OrderAnswer input status output
 CommandAnswer (command.Recover turns) input status output = RecoverAnswer turns input status output
 CommandAnswer (command.Upgrade turns) input status output = UpgradeAnswer turns input status output
 CommandAnswer (command.Make rounds seed) input status output = IsGenerated rounds seed status output
-CommandAnswer (command.Seeded seed turns crashes journal) input status output = SeededAnswer seed turns crashes journal input status output
-CommandAnswer (command.Live turns crashes evict journal) input status output = LiveAnswer turns crashes evict journal input status output
-CommandAnswer (command.Load rounds seed) input status output = LoadAnswer rounds seed status output
-CommandAnswer command.Sweep input status output = SweepAnswer input status output
+CommandAnswer (command.Seeded seed turns crashes journal scheme) input status output =
+    SeededAnswer (log_by scheme) seed turns crashes journal input status output
+CommandAnswer (command.Live turns crashes evict journal scheme) input status output =
+    LiveAnswer (log_by scheme) turns crashes evict journal input status output
+CommandAnswer (command.Load rounds seed scheme) input status output = LoadAnswer (log_by scheme) rounds seed status output
+CommandAnswer (command.Sweep scheme) input status output = SweepAnswer (log_by scheme) input status output
 
 -- what an input of a command is answered
 pub data AnswerToInput (c : Command) (input : List ℕ) (status : ℕ) (output : List ℕ) : Type 0 where

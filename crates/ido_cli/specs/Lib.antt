@@ -3,6 +3,7 @@ pub mod Runs
 pub mod Inputs
 pub mod Reports
 pub mod OrderedLives
+pub mod Schemes
 pub mod Plays
 pub mod Images
 pub mod CompiledImages

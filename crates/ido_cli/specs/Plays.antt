@@ -14,7 +14,8 @@ use Rattle.machine_model.specs.Machine.{can_start}
 use Rattle.log_schemes.specs.Schemes.{numbers_from}
 use Rattle.machine_model.specs.Schedule.{only_life, schedules}
 use Rattle.flow_graph.specs.declared.cuts.Cuts.{Cuts}
-use Rattle.flat_compile.specs.TranslatedForms.{IsTranslated}
+use Rattle.log_schemes.specs.declared.log.Log.{Log}
+use Rattle.flat_compile.specs.TranslatedForms.{IsTranslatedAs}
 use Rattle.compiler_correctness.specs.Translations.{Translation, world, steps, translation_to}
 use Rattle.compiler_correctness.specs.Compilation.{AreSectionsKept}
 use Rattle.compiler_correctness.specs.Compilations.{IsCompilation}
@@ -26,12 +27,12 @@ use Rattle.ido_cli.specs.Refusals.{IsRefusedAt, play_fault_code, play_fault_plac
 use Rattle.ido_cli.specs.Reports.{machine_state}
 use Rattle.ido_cli.specs.Runs.{IsReport, run_state}
 
--- What a flat form is compiled to: by an object that is a translation of it, so a compilation. Which one of them isn't said.
-pub record IsTranslationOf (flat : f.Flat) (c : Translation) : Type 0 where
+-- What a flat form is compiled to whose threads log so: by an object that is a translation of it, so a compilation. Which one of them isn't said.
+pub record IsTranslationOf (log : Log) (flat : f.Flat) (c : Translation) : Type 0 where
   pub object : Object
   pub marks : Marks
   pub cuts : Cuts
-  pub translated : IsTranslated flat object marks cuts
+  pub translated : IsTranslatedAs log flat object marks cuts
   pub compilation : IsCompilation c
   pub is : c ≡ translation_to flat object marks cuts
 

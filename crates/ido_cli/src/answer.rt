@@ -18,12 +18,14 @@ use crate::recover::recover_answer;
 use crate::refusal::refused;
 use crate::regions::regions_answer;
 use crate::said::Said;
+use crate::scheme::log_by;
 use crate::seeded::seeded_answer;
 use crate::source::source_answer;
 use crate::sweep::sweep_answer;
 use crate::upgrade::upgrade_answer;
 use command_words::command::Command;
 use command_words::crashes::Crashes;
+use command_words::scheme::SchemeName;
 use ido_base::limits::MOST_SOURCE_BYTES;
 use ido_base::memory::OutOfMemory;
 use ido_outside::Gate;
@@ -35,7 +37,7 @@ use std::thread::Threads;
 #[derive(Clone, Copy)]
 enum Product {
     /// Its object.
-    Object,
+    Object { scheme: SchemeName },
     /// The nodes of its graph, and the boundaries among them; and how few there are in straight code, where that is asked.
     Regions { least: bool },
     /// Whether its threads lock in order.
@@ -48,7 +50,7 @@ fn product_answer(alloc: Global, product: Product, source: &[u8]) -> Result<Said
     ensures { IfOk result (λ said. CommandAnswer (command_making product) source.now said.status said.output.items) }
 {
     match product {
-        Product::Object => compile_answer(alloc, source),
+        Product::Object { scheme } => compile_answer(alloc, log_by(scheme), source),
         Product::Regions { least } => regions_answer(alloc, source, least),
         Product::Order => order_answer(alloc, source),
     }
@@ -65,15 +67,20 @@ fn product_input(alloc: Global, product: Product, input: &[u8]) -> Result<Said, 
 }
 
 /// The answer to an input of `play` or of `image`.
-fn scripted_input(alloc: Global, asked: Asked, input: &[u8]) -> Result<Said, OutOfMemory>
+fn scripted_input(
+    alloc: Global,
+    scheme: SchemeName,
+    asked: Asked,
+    input: &[u8],
+) -> Result<Said, OutOfMemory>
     requires { length input.now ≤ MOST_INPUT_BYTES }
-    ensures { IfOk result (λ said. AnswerToInput (command_asking asked) input.now said.status said.output.items) }
+    ensures { IfOk result (λ said. AnswerToInput (command_asking asked scheme) input.now said.status said.output.items) }
 {
     let (source, script) = split(input);
     if source.len() > MOST_SOURCE_BYTES {
         return refused(alloc, 6, b"refused limit\n");
     }
-    scripted_answer(alloc, asked, input, source, script)
+    scripted_answer(alloc, log_by(scheme), asked, input, source, script)
 }
 
 /// The answer to an input of `source`.
@@ -91,18 +98,27 @@ fn source_input(alloc: Global, input: &[u8]) -> Result<Said, OutOfMemory>
 /// The answer to an input of `seeded`.
 fn seeded_input(
     alloc: Global,
+    scheme: SchemeName,
     input: &[u8],
     seed: u64,
     turns: u32,
     crashes: &Crashes,
     journal: bool,
 ) -> Result<Said, OutOfMemory>
-    ensures { IfOk result (λ said. AnswerToInput (command.Seeded seed turns crashes.now journal) input.now said.status said.output.items) }
+    ensures { IfOk result (λ said. AnswerToInput (command.Seeded seed turns crashes.now journal scheme) input.now said.status said.output.items) }
 {
     if input.len() > MOST_SOURCE_BYTES {
         return refused(alloc, 6, b"refused limit\n");
     }
-    seeded_answer(alloc, input, seed, turns, crashes.words(), journal)
+    seeded_answer(
+        alloc,
+        log_by(scheme),
+        input,
+        seed,
+        turns,
+        crashes.words(),
+        journal,
+    )
 }
 
 /// The answer to an input of `live`.
@@ -114,7 +130,8 @@ fn live_input<R: Threads + Wait + Sync, G: Gate + Sync>(
     gate: &G,
 ) -> Result<Said, OutOfMemory>
     ensures { IfOk result (λ said.
-        AnswerToInput (command.Live asked.entry.turns asked.entry.crashes.now asked.entry.evict asked.entry.journal) input.now said.status said.output.items) }
+        AnswerToInput (command.Live asked.entry.turns asked.entry.crashes.now asked.entry.evict asked.entry.journal asked.entry.scheme) input.now
+        said.status said.output.items) }
 {
     if input.len() > MOST_SOURCE_BYTES {
         return refused(alloc, 6, b"refused limit\n");
@@ -126,17 +143,18 @@ fn live_input<R: Threads + Wait + Sync, G: Gate + Sync>(
 fn sweep_input<R: Threads + Wait + Sync, G: Gate + Sync>(
     rt: &R,
     alloc: Global,
+    scheme: SchemeName,
     input: &[u8],
     gate: &G,
 ) -> Result<Said, OutOfMemory>
     requires { length input.now ≤ MOST_INPUT_BYTES }
-    ensures { IfOk result (λ said. AnswerToInput command.Sweep input.now said.status said.output.items) }
+    ensures { IfOk result (λ said. AnswerToInput (command.Sweep scheme) input.now said.status said.output.items) }
 {
     let (source, script) = split(input);
     if source.len() > MOST_SOURCE_BYTES {
         return refused(alloc, 6, b"refused limit\n");
     }
-    sweep_answer(rt, alloc, input, source, script, gate)
+    sweep_answer(rt, alloc, log_by(scheme), input, source, script, gate)
 }
 
 /// The answer to an input of a command that needs no threads.
@@ -146,12 +164,14 @@ pub fn answer(alloc: Global, command: Command, input: &[u8]) -> Result<Said, Out
     ensures { IfOk result (λ said. AnswerToInput command input.now said.status said.output.items) }
 {
     match command {
-        Command::Compile => product_input(alloc, Product::Object, input),
+        Command::Compile { scheme } => { product_input(alloc, Product::Object { scheme }, input) },
         Command::List => list_answer(alloc, input),
         Command::Regions { least } => product_input(alloc, Product::Regions { least }, input),
-        Command::Play { fences } => scripted_input(alloc, Asked::Report { fences }, input),
+        Command::Play { fences, scheme } => {
+            scripted_input(alloc, scheme, Asked::Report { fences }, input)
+        },
         Command::Source => source_input(alloc, input),
-        Command::Image => scripted_input(alloc, Asked::Image, input),
+        Command::Image { scheme } => { scripted_input(alloc, scheme, Asked::Image, input) },
         Command::Order => product_input(alloc, Product::Order, input),
         Command::Make { rounds, seed } => make_answer(alloc, rounds, seed),
         Command::Seeded {
@@ -159,12 +179,13 @@ pub fn answer(alloc: Global, command: Command, input: &[u8]) -> Result<Said, Out
             turns,
             crashes,
             journal,
-        } => seeded_input(alloc, input, seed, turns, &crashes, journal),
+            scheme,
+        } => seeded_input(alloc, scheme, input, seed, turns, &crashes, journal),
         Command::Live { .. }
         | Command::Recover { .. }
         | Command::Upgrade { .. }
         | Command::Load { .. }
-        | Command::Sweep => unreachable!(),
+        | Command::Sweep { .. } => unreachable!(),
     }
 }
 
@@ -186,25 +207,31 @@ pub fn threaded_answer<R: Threads + Wait + Sync, G: Gate + Sync>(
             crashes,
             evict,
             journal,
+            scheme,
         } => {
             let asked = LiveRun {
                 turns,
                 crashes: crashes.words(),
                 evict,
                 journal,
+                scheme,
             };
             live_input(rt, alloc, input, asked, gate)
         }
         Command::Recover { turns } => recover_answer(rt, alloc, input, turns, gate),
         Command::Upgrade { turns } => upgrade_answer(rt, alloc, input, turns, gate),
-        Command::Load { rounds, seed } => load_answer(rt, alloc, rounds, seed, gate),
-        Command::Sweep => sweep_input(rt, alloc, input, gate),
-        Command::Compile
+        Command::Load {
+            rounds,
+            seed,
+            scheme,
+        } => load_answer(rt, alloc, scheme, rounds, seed, gate),
+        Command::Sweep { scheme } => sweep_input(rt, alloc, scheme, input, gate),
+        Command::Compile { .. }
         | Command::List
         | Command::Regions { .. }
         | Command::Play { .. }
         | Command::Source
-        | Command::Image
+        | Command::Image { .. }
         | Command::Order
         | Command::Make { .. }
         | Command::Seeded { .. } => unreachable!(),

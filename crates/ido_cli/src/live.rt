@@ -5,7 +5,7 @@ ghost use Rattle.c_tree.specs.Flats.{flat_of};
 ghost use Rattle.c_tree.specs.WellFormed.{shape_of};
 ghost use Rattle.memory_layout.specs.Variables.{HaveRoom};
 ghost use Rattle.machine_model.specs.Machine.{IsEviction};
-ghost use Rattle.flat_compile.specs.TranslatedForms.{IsTranslated};
+ghost use Rattle.flat_compile.specs.TranslatedForms.{IsTranslatedAs};
 ghost use Rattle.compiler_correctness.specs.Compilations.{IsCompilation};
 ghost use Rattle.hart_driver.specs.Driven.{evictions_of as coming_of};
 ghost use Rattle.ido_compile.specs.CompileAnswers.{translation_in};
@@ -15,6 +15,7 @@ ghost use Rattle.run_tracker.specs.ObjectLives.{steps_in, world_of};
 ghost use Rattle.ido_cli.specs.Answers.{LiveAnswer};
 ghost use Rattle.ido_cli.specs.Reports.{machine_state};
 ghost use Rattle.ido_cli.specs.Runs.{IsReport};
+ghost use Rattle.ido_cli.specs.Schemes.{log_by};
 ghost use Rattle.ido_cli.specs.ThreadedRuns.{evictions_at, most_leg_events};
 ghost use Rattle.ido_cli.specs.links.CountedSections.{CountsSections};
 ghost use Rattle.ido_cli.specs.links.LegRuns.{CanRun, HasCrashed, HasRunLegs, IsLiveRun, IsSaidOf};
@@ -22,8 +23,9 @@ ghost use Rattle.ido_cli.specs.links.LegRuns.{CanRun, HasCrashed, HasRunLegs, Is
 use crate::refusal::source_refused;
 use crate::report::say;
 use crate::said::Said;
-use crate::scheme::COMMAND_LOG;
+use crate::scheme::log_by;
 use c_tree::flat::Flat;
+use command_words::scheme::SchemeName;
 use hart_driver::drive::drive;
 use ido_base::limits::LINE_BYTES;
 use ido_base::memory::OutOfMemory;
@@ -52,6 +54,8 @@ pub struct LiveRun<'a> {
     pub evict: Option<u64>,
     /// The journal is written in place of the report.
     pub journal: bool,
+    /// By which scheme its threads log.
+    pub scheme: SchemeName,
 }
 
 /// The evictions of a seed for the threads of an object, where there are any.
@@ -166,7 +170,7 @@ fn ran<R: Threads + Wait + Sync, G: Gate + Sync>(
     asked: LiveRun<'_>,
     gate: &G,
 ) -> Result<Said, OutOfMemory>
-    requires translated { IsTranslated (flat_of compiled.now.flat) compiled.now.translated.object compiled.now.translated.marks compiled.now.translated.cuts }
+    requires translated { let made = compiled.now.translated in IsTranslatedAs made.object.log (flat_of compiled.now.flat) made.object made.marks made.cuts }
     requires compilation { IsCompilation (translation_in compiled.now) }
     ensures { IfOk result (λ said.
         IsLiveRun (translation_in compiled.now) asked.entry.turns asked.entry.crashes.now asked.entry.evict asked.entry.journal
@@ -193,9 +197,10 @@ pub fn live_answer<R: Threads + Wait + Sync, G: Gate + Sync>(
 ) -> Result<Said, OutOfMemory>
     requires { length source.now ≤ MOST_SOURCE_BYTES }
     ensures { IfOk result (λ said.
-        LiveAnswer asked.entry.turns asked.entry.crashes.now asked.entry.evict asked.entry.journal source.now said.status said.output.items) }
+        LiveAnswer (log_by asked.entry.scheme) asked.entry.turns asked.entry.crashes.now asked.entry.evict asked.entry.journal source.now
+        said.status said.output.items) }
 {
-    match compile(alloc, COMMAND_LOG, source) {
+    match compile(alloc, log_by(asked.scheme), source) {
         Ok(compiled) => ran(rt, alloc, source, &compiled, asked, gate),
         Err(error) => source_refused(alloc, source, error),
     }

@@ -3,14 +3,15 @@ ghost use Rattle.std.specs.Prelude.{◌≡◌, ◌+◌, ◌-◌, ◌<◌, ◌≤
 ghost use Rattle.std.specs.Int.{w128};
 ghost use Rattle.ido_base.specs.declared.limits.TheConstants.{MOST_THREADS, MOST_VARIABLE_BYTES};
 ghost use Rattle.c_tree.specs.Flats.{flat_of};
-ghost use Rattle.flat_compile.specs.TranslatedForms.{IsTranslated};
+ghost use Rattle.flat_compile.specs.TranslatedForms.{IsTranslatedAs};
 ghost use Rattle.compiler_correctness.specs.Compilations.{IsCompilation};
-ghost use Rattle.ido_compile.specs.CompileAnswers.{IsCompiled, translation_in};
+ghost use Rattle.ido_compile.specs.CompileAnswers.{IsCompiledAs, translation_in};
 ghost use Rattle.lock_order.specs.LockOrder.{order_fault};
 ghost use Rattle.run_scripts.specs.GeneratedSources.{generated_source};
 ghost use Rattle.run_scripts.specs.links.ReportViews as views;
 ghost use Rattle.run_tracker.specs.ObjectLives.{opening_of};
 ghost use Rattle.ido_cli.specs.Answers.{LoadAnswer};
+ghost use Rattle.ido_cli.specs.Schemes.{log_by};
 ghost use Rattle.ido_cli.specs.Loads.{IsSummary, settled_summary, sums_text, total};
 ghost use Rattle.ido_cli.specs.ThreadedRuns.{AreRounds, most_leg_events};
 ghost use Rattle.ido_cli.specs.links.LegRuns.{HasRounds, IsLoad, IsSmall, IsSummable, LeadsTo};
@@ -18,8 +19,9 @@ ghost use Rattle.ido_cli.specs.links.LegRuns.{HasRounds, IsLoad, IsSmall, IsSumm
 use crate::live::MOST_LEG_EVENTS;
 use crate::report::reported;
 use crate::said::Said;
-use crate::scheme::COMMAND_LOG;
+use crate::scheme::log_by;
 use c_tree::flat::Flat;
+use command_words::scheme::SchemeName;
 use deadlock_freedom::laws::stops_are_settled;
 use generated_programs::laws::generated_are_ordered;
 use hart_driver::drive::drive;
@@ -142,7 +144,7 @@ fn loaded<R: Threads + Wait + Sync, G: Gate + Sync>(
     compiled: &Compiled,
     gate: &G,
 ) -> Result<Said, OutOfMemory>
-    requires translated { IsTranslated (flat_of compiled.now.flat) compiled.now.translated.object compiled.now.translated.marks compiled.now.translated.cuts }
+    requires translated { let made = compiled.now.translated in IsTranslatedAs made.object.log (flat_of compiled.now.flat) made.object made.marks made.cuts }
     requires compilation { IsCompilation (translation_in compiled.now) }
     ensures { IfOk result (λ said. IsLoad (translation_in compiled.now) said.status said.output.items) }
 {
@@ -162,14 +164,19 @@ fn loaded<R: Threads + Wait + Sync, G: Gate + Sync>(
 }
 
 /// The source that two numbers give, compiled: it breaks no rule, and its threads take locks in their order.
-fn compile_generated(alloc: Global, count: u32, seed: u32) -> Result<Compiled, OutOfMemory>
-    ensures compiled { IfOk result (λ compiled. IsCompiled (generated_source count seed) compiled) }
+fn compile_generated(
+    alloc: Global,
+    scheme: SchemeName,
+    count: u32,
+    seed: u32,
+) -> Result<Compiled, OutOfMemory>
+    ensures compiled { IfOk result (λ compiled. IsCompiledAs (log_by scheme) (generated_source count seed) compiled) }
     ensures in_order { IfOk result (λ compiled. order_fault (flat_of compiled.flat) ≡ None) }
 {
     generated_are_ordered();
     one_verdict();
     let source = make_program(alloc, count, seed)?;
-    match compile(alloc, COMMAND_LOG, &source) {
+    match compile(alloc, log_by(scheme), &source) {
         Ok(compiled) => Ok(compiled),
         Err(CompileError::Refused(_)) => unreachable!(),
         Err(CompileError::Memory) => Err(OutOfMemory),
@@ -180,13 +187,14 @@ fn compile_generated(alloc: Global, count: u32, seed: u32) -> Result<Compiled, O
 pub fn load_answer<R: Threads + Wait + Sync, G: Gate + Sync>(
     rt: &R,
     alloc: Global,
+    scheme: SchemeName,
     count: u32,
     seed: u32,
     gate: &G,
 ) -> Result<Said, OutOfMemory>
-    ensures { IfOk result (λ said. LoadAnswer count seed said.status said.output.items) }
+    ensures { IfOk result (λ said. LoadAnswer (log_by scheme) count seed said.status said.output.items) }
 {
     stops_are_settled();
-    let compiled = compile_generated(alloc, count, seed)?;
+    let compiled = compile_generated(alloc, scheme, count, seed)?;
     loaded(rt, alloc, &compiled, gate)
 }

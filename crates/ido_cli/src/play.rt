@@ -3,7 +3,7 @@ ghost use Rattle.std.specs.Prelude.{◌≡◌, ◌+◌, ◌≤◌, ◌++◌, All
 ghost use Rattle.ido_base.specs.declared.limits.TheConstants.{MOST_EVENTS, MOST_INPUT_BYTES, MOST_SOURCE_BYTES};
 ghost use Rattle.c_tree.specs.Flats.{flat_of};
 ghost use Rattle.c_tree.specs.WellFormed.{shape_of};
-ghost use Rattle.flat_compile.specs.TranslatedForms.{IsTranslated};
+ghost use Rattle.flat_compile.specs.TranslatedForms.{IsTranslatedAs};
 ghost use Rattle.machine_model.specs.Machine.{IsEviction};
 ghost use Rattle.machine_model.specs.Schedule.{schedules};
 ghost use Rattle.memory_layout.specs.Variables.{HaveRoom};
@@ -11,7 +11,7 @@ ghost use Rattle.run_scripts.specs.Reports.{fence_lines};
 ghost use Rattle.run_scripts.specs.Scripts.{IsDoable};
 ghost use Rattle.run_scripts.specs.links.ScriptViews as scripts;
 ghost use Rattle.compiler_correctness.specs.Compilations.{IsCompilation};
-ghost use Rattle.ido_compile.specs.CompileAnswers.{IsCompiled, translation_in};
+ghost use Rattle.ido_compile.specs.CompileAnswers.{IsCompiledAs, translation_in};
 ghost use Rattle.ido_cli.specs.Answers.{ScriptedAnswer};
 ghost use Rattle.ido_cli.specs.Inputs.{source_of, rest_of};
 ghost use Rattle.ido_cli.specs.Plays.{ScriptAnswer};
@@ -20,18 +20,18 @@ ghost use Rattle.ido_cli.specs.Reports.{machine_state};
 ghost use Rattle.ido_cli.specs.links.CountedSections.{CountsSections};
 ghost use Rattle.ido_cli.specs.links.FencedReports.{IsReportWith, fences_in};
 ghost use Rattle.ido_cli.specs.links.PlayedLives.{HasPlayed};
-ghost use Rattle.ido_cli.specs.links.RunRequests.{Says};
+ghost use Rattle.ido_cli.specs.links.RunRequests.{Says, TellsLives};
 ghost use Rattle.run_tracker.specs.ObjectLives.{steps_in, world_of};
 
 use crate::image::image;
 use crate::refusal::{refused_at, source_refused};
 use crate::report::say;
 use crate::said::Said;
-use crate::scheme::COMMAND_LOG;
 use c_tree::flat::Flat;
 use ido_base::limits::MOST_EVENTS;
 use ido_base::memory::OutOfMemory;
 use ido_compile::{Compiled, compile};
+use log_schemes::log::Log;
 use run_scripts::bounds::script_bound;
 use run_scripts::play::{PlayError, play};
 use run_scripts::report::put_fences;
@@ -111,7 +111,8 @@ fn say_asked(
     compiled: &Compiled,
     life: &Life,
 ) -> Result<Said, OutOfMemory>
-    requires translated { IsTranslated (flat_of compiled.now.flat) compiled.now.translated.object compiled.now.translated.marks compiled.now.translated.cuts }
+    requires tells { TellsLives compiled.now.translated.object.log }
+    requires translated { let made = compiled.now.translated in IsTranslatedAs made.object.log (flat_of compiled.now.flat) made.object made.marks made.cuts }
     requires compilation { IsCompilation (translation_in compiled.now) }
     requires short_source { length compiled.now.text.items ≤ MOST_SOURCE_BYTES }
     requires played { HasPlayed compiled.now.translated.object compiled.now.translated.marks life.now life.now.journal }
@@ -136,7 +137,8 @@ fn script_answer(
 ) -> Result<Said, OutOfMemory>
     requires short { length input.now ≤ MOST_INPUT_BYTES }
     requires within { begins ≤ length input.now }
-    requires translated { IsTranslated (flat_of compiled.now.flat) compiled.now.translated.object compiled.now.translated.marks compiled.now.translated.cuts }
+    requires tells { TellsLives compiled.now.translated.object.log }
+    requires translated { let made = compiled.now.translated in IsTranslatedAs made.object.log (flat_of compiled.now.flat) made.object made.marks made.cuts }
     requires compilation { IsCompilation (translation_in compiled.now) }
     requires short_source { length compiled.now.text.items ≤ MOST_SOURCE_BYTES }
     requires doable { let object = compiled.now.translated.object in
@@ -192,8 +194,10 @@ fn compiled_answer(
     requires short { length input.now ≤ MOST_INPUT_BYTES }
     requires rest { rest.now ≡ rest_of input.now }
     requires short_source { length (source_of input.now) ≤ MOST_SOURCE_BYTES }
-    requires compiled { IsCompiled (source_of input.now) compiled.now }
-    ensures { IfOk result (λ said. ScriptedAnswer (Says asked (source_of input.now)) input.now said.status said.output.items) }
+    requires tells { TellsLives compiled.now.translated.object.log }
+    requires compiled { IsCompiledAs compiled.now.translated.object.log (source_of input.now) compiled.now }
+    ensures { IfOk result (λ said.
+        ScriptedAnswer compiled.now.translated.object.log (Says asked (source_of input.now)) input.now said.status said.output.items) }
 {
     let begins = (input.len() - rest.len()) as u64;
     match read_script(
@@ -210,6 +214,7 @@ fn compiled_answer(
 /// The answer to an input of `play` or of `image`, from its source text and what stands after it.
 pub fn scripted_answer(
     alloc: Global,
+    log: Log,
     asked: Asked,
     input: &[u8],
     source: &[u8],
@@ -219,9 +224,10 @@ pub fn scripted_answer(
     requires short_source { length source.now ≤ MOST_SOURCE_BYTES }
     requires source { source.now ≡ source_of input.now }
     requires rest { rest.now ≡ rest_of input.now }
-    ensures { IfOk result (λ said. ScriptedAnswer (Says asked (source_of input.now)) input.now said.status said.output.items) }
+    requires tells { TellsLives log }
+    ensures { IfOk result (λ said. ScriptedAnswer log (Says asked (source_of input.now)) input.now said.status said.output.items) }
 {
-    match compile(alloc, COMMAND_LOG, source) {
+    match compile(alloc, log, source) {
         Ok(compiled) => compiled_answer(alloc, asked, &compiled, input, rest),
         Err(error) => source_refused(alloc, source, error),
     }

@@ -144,7 +144,7 @@ pub fn recover_answer<R: Threads + Wait + Sync, G: Gate + Sync>(
     ensures { IfOk result (λ said. RecoverAnswer turns input.now said.status said.output.items) }
 {
     shapes_run_on();
-    match read_image(alloc, input, ImageVersion::Third) {
+    match read_image(alloc, input, ImageVersion::Fourth) {
         Ok(image) => recovered(rt, alloc, &image, turns, gate),
         Err(error) => image_refused(alloc, error),
     }

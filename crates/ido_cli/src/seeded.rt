@@ -2,7 +2,7 @@
 ghost use Rattle.std.specs.Prelude.{◌≤◌, length, IfOk};
 ghost use Rattle.ido_base.specs.declared.limits.TheConstants.{MOST_SOURCE_BYTES};
 ghost use Rattle.c_tree.specs.Flats.{flat_of};
-ghost use Rattle.flat_compile.specs.TranslatedForms.{IsTranslated};
+ghost use Rattle.flat_compile.specs.TranslatedForms.{IsTranslatedAs};
 ghost use Rattle.compiler_correctness.specs.Compilations.{IsCompilation};
 ghost use Rattle.ido_compile.specs.CompileAnswers.{translation_in};
 ghost use Rattle.ido_cli.specs.Answers.{IsTold, SeededAnswer};
@@ -11,10 +11,10 @@ ghost use Rattle.ido_cli.specs.Draws.{drawn_by};
 use crate::live::told;
 use crate::refusal::source_refused;
 use crate::said::Said;
-use crate::scheme::COMMAND_LOG;
 use ido_base::limits::LINE_BYTES;
 use ido_base::memory::OutOfMemory;
 use ido_compile::{Compiled, compile};
+use log_schemes::log::Log;
 use run_scripts::draw::draw;
 use run_scripts::events::make_events;
 use run_tracker::life::Life;
@@ -30,7 +30,7 @@ fn drawn_answer(
     crashes: &[u64],
     journal: bool,
 ) -> Result<Said, OutOfMemory>
-    requires translated { IsTranslated (flat_of compiled.now.flat) compiled.now.translated.object compiled.now.translated.marks compiled.now.translated.cuts }
+    requires translated { let made = compiled.now.translated in IsTranslatedAs made.object.log (flat_of compiled.now.flat) made.object made.marks made.cuts }
     requires compilation { IsCompilation (translation_in compiled.now) }
     ensures { IfOk result (λ said.
         IsTold journal source.now (translation_in compiled.now) (drawn_by (translation_in compiled.now) seed turns crashes.now) said.status
@@ -58,6 +58,7 @@ fn drawn_answer(
 /// The answer to a source text: the report or the journal of its drawn run, with so many draws and a crash after each of these numbers of them.
 pub fn seeded_answer(
     alloc: Global,
+    log: Log,
     source: &[u8],
     seed: u64,
     turns: u32,
@@ -65,9 +66,9 @@ pub fn seeded_answer(
     journal: bool,
 ) -> Result<Said, OutOfMemory>
     requires { length source.now ≤ MOST_SOURCE_BYTES }
-    ensures { IfOk result (λ said. SeededAnswer seed turns crashes.now journal source.now said.status said.output.items) }
+    ensures { IfOk result (λ said. SeededAnswer log seed turns crashes.now journal source.now said.status said.output.items) }
 {
-    match compile(alloc, COMMAND_LOG, source) {
+    match compile(alloc, log, source) {
         Ok(compiled) => drawn_answer(alloc, source, &compiled, seed, turns, crashes, journal),
         Err(error) => source_refused(alloc, source, error),
     }

@@ -4,7 +4,7 @@ ghost use denote.Param.Send.{IsSync};
 ghost use Rattle.ido_cli.specs.contracts.sweep.CrashPoints.{the_row};
 ghost use Rattle.hart_driver.specs.Outcomes.{AreOutcomes};
 ghost use Rattle.ido_base.specs.declared.limits.TheConstants.{MOST_INPUT_BYTES, MOST_SOURCE_BYTES};
-ghost use Rattle.ido_compile.specs.CompileAnswers.{IsCompiled, translation_in};
+ghost use Rattle.ido_compile.specs.CompileAnswers.{IsCompiledAs, translation_in};
 ghost use Rattle.ido_cli.specs.Inputs.{source_of, rest_of};
 ghost use Rattle.ido_cli.specs.Answers.{SweepAnswer};
 ghost use Rattle.ido_cli.specs.Plays.{events_by};
@@ -17,7 +17,6 @@ use crate::play::script_refused;
 use crate::refusal::{refused_at, source_refused};
 use crate::report::say;
 use crate::said::Said;
-use crate::scheme::COMMAND_LOG;
 use crate::table::table;
 use c_tree::flat::Flat;
 use flat_compile::Translated;
@@ -27,6 +26,7 @@ use ido_base::limits::MOST_EVENTS;
 use ido_base::memory::OutOfMemory;
 use ido_compile::{Compiled, compile};
 use ido_outside::Gate;
+use log_schemes::log::Log;
 use machine_events::event::Event;
 use run_scripts::few::{Excess, play_few};
 use run_scripts::play::play;
@@ -255,8 +255,8 @@ fn compiled_answer<R: Threads + Sync, G: Gate + Sync>(
 ) -> Result<Said, OutOfMemory>
     requires short { length input.now ≤ MOST_INPUT_BYTES }
     requires rest { rest.now ≡ rest_of input.now }
-    requires compiled { IsCompiled (source_of input.now) compiled }
-    ensures { IfOk result (λ said. SweepAnswer input.now said.status said.output.items) }
+    requires compiled { IsCompiledAs compiled.translated.object.log (source_of input.now) compiled }
+    ensures { IfOk result (λ said. SweepAnswer compiled.translated.object.log input.now said.status said.output.items) }
 {
     let begins = (input.len() - rest.len()) as u64;
     match read_script(
@@ -274,6 +274,7 @@ fn compiled_answer<R: Threads + Sync, G: Gate + Sync>(
 pub fn sweep_answer<R: Threads + Sync, G: Gate + Sync>(
     rt: &R,
     alloc: Global,
+    log: Log,
     input: &[u8],
     source: &[u8],
     rest: &[u8],
@@ -283,9 +284,9 @@ pub fn sweep_answer<R: Threads + Sync, G: Gate + Sync>(
     requires short_source { length source.now ≤ MOST_SOURCE_BYTES }
     requires source { source.now ≡ source_of input.now }
     requires rest { rest.now ≡ rest_of input.now }
-    ensures { IfOk result (λ said. SweepAnswer input.now said.status said.output.items) }
+    ensures { IfOk result (λ said. SweepAnswer log input.now said.status said.output.items) }
 {
-    match compile(alloc, COMMAND_LOG, source) {
+    match compile(alloc, log, source) {
         Ok(compiled) => compiled_answer(rt, alloc, compiled, input, rest, gate),
         Err(error) => source_refused(alloc, source, error),
     }

@@ -92,7 +92,7 @@ fn has_room(steps: &[u32]) -> bool
 }
 
 /// The image of the newest version that the life of a source leaves whose every thread stands between sections: its variables, and no word of a log.
-#[tactic(auto, using(crate::proofs::SameContents::third_as_same))]
+#[tactic(auto, using(crate::proofs::SameContents::read_as_same))]
 fn renewed(alloc: Global, source: &[u8], object: &Object, life: &Life) -> Result<Said, OutOfMemory>
     requires source { length source.now ≤ MOST_SOURCE_BYTES }
     requires variables { variable_words_in life.now ≤ VARIABLE_WORDS }

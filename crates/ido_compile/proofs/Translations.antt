@@ -1,18 +1,19 @@
 -- What a compiled text is to its readers.
 use Rattle.std.proofs.Common.{◌≡◌, sym, ap, ap₂, ◌∙◌, subst}
 use Rattle.log_schemes.specs.declared.log.Log.{Log}
+use Rattle.log_schemes.specs.Schemes.{locals_of}
 use Rattle.c_tree.specs.Flats as f
 use Rattle.machine_model.specs.declared.object.Object.{Object}
 use Rattle.rv64_isa.specs.declared.object.Marks.{Marks}
 use Rattle.machine_model.specs.Executables.{Executable}
 use Rattle.flow_graph.specs.declared.cuts.Cuts.{Cuts}
-use Rattle.flow_graph.specs.IdempotentCuts.{Boundaries, IsMinimal}
-use Rattle.region_cutter.specs.FewestCuts.{AreFewestCuts}
+use Rattle.flow_graph.specs.IdempotentCuts.{Boundaries}
+use Rattle.region_cutter.specs.BoundaryPlaces.{AreBoundariesFor}
 use Rattle.flow_graph.specs.Lowering.{lowered}
 use Rattle.crash_simulation.specs.Systems.{flat_of}
 use Rattle.compiler_correctness.specs.Translations.{Translation, translation_to}
 use Rattle.compiler_correctness.specs.Compilations.{IsCompilation}
-use Rattle.compiler_correctness.specs.Laws.{SystemsAreCompilations, translation_of}
+use Rattle.compiler_correctness.specs.Laws.{AreItsBoundaries, SystemsAreCompilations, translation_of}
 use Rattle.flat_compile.specs.TranslatedForms.{IsTranslatedAs}
 use Rattle.ido_compile.specs.CompileAnswers.{TranslationsAreCompilations}
 
@@ -28,10 +29,9 @@ same_translation flat object marks cuts log t =
 -- all that is promised of compiled programs holds of it
 pub are_compilations : SystemsAreCompilations → TranslationsAreCompilations
 are_compilations law log flat object marks cuts t =
-    let minimal : IsMinimal (lowered (flat_of t.system)) t.system.plan.boundaries =
-    subst (λ (x : f.Flat). IsMinimal (lowered x) t.system.plan.boundaries) (sym t.of_flat)
-    (subst (λ (b : Boundaries). IsMinimal (lowered flat) b) (sym t.at_cuts) t.minimal) in
-    let fewest : AreFewestCuts (lowered (flat_of t.system)) t.system.plan.boundaries =
-    subst (λ (x : f.Flat). AreFewestCuts (lowered x) t.system.plan.boundaries) (sym t.of_flat)
-    (subst (λ (b : Boundaries). AreFewestCuts (lowered flat) b) (sym t.at_cuts) t.fewest) in
-    subst IsCompilation (same_translation flat object marks cuts log t) (law t.system t.is minimal fewest)
+    let log_is : log ≡ t.system.runs.log = sym t.log ∙ ap (λ (x : Executable). x.log) (sym t.runs) in
+    let placed : AreItsBoundaries t.system =
+    subst (λ (l : Log). AreBoundariesFor (locals_of l) (lowered (flat_of t.system)) t.system.plan.held t.system.plan.boundaries) log_is
+    (subst (λ (x : f.Flat). AreBoundariesFor (locals_of log) (lowered x) t.system.plan.held t.system.plan.boundaries) (sym t.of_flat)
+    (subst (λ (b : Boundaries). AreBoundariesFor (locals_of log) (lowered flat) t.system.plan.held b) (sym t.at_cuts) t.placed)) in
+    subst IsCompilation (same_translation flat object marks cuts log t) (law t.system t.is placed)

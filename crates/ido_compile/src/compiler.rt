@@ -15,6 +15,7 @@ use c_reader::read;
 use c_tree::flat::Flat;
 use c_tree::language::Language;
 use c_typer::type_tree;
+use first_assignments::laws::locals_are_assigned_first;
 use flat_analysis::{Analysis, analyse};
 use flat_compile::{Translated, translate};
 use ido_base::memory::OutOfMemory;
@@ -90,6 +91,7 @@ fn translated(alloc: Global, log: Log, text: &[u8], flat: &Flat) -> Result<Trans
     requires { IsFlattenedAs log text.now (flat_of flat.now) }
     ensures { IsTranslationAnswerAs log text.now (flat_of flat.now) result }
 {
+    locals_are_assigned_first();
     let analysis = checked(alloc, log, text, flat)?;
     let translated = translate(alloc, log, &analysis)?;
     Ok(translated)

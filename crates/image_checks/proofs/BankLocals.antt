@@ -1,4 +1,4 @@
--- The numbers of locals by the slots of a bank, and the locks that names have by them.
+-- The numbers of locals by the words of their homes, and the locks that names have by them.
 use Rattle.std.proofs.Common.{◌≡◌, ◌⊎◌, inl, inr, refl, ℕ, zero, suc, ◌+◌, ◌<◌, ◌≤◌, sym, ap, ◌∙◌, subst, arith, Option, Some, None, true}
 use Rattle.std.proofs.Common.{List, [], ◌∷◌, ◌++◌, length, length-append, map, get_or, ℤ}
 use Rattle.std.specs.List.{AllByRecursion, AllZip}
@@ -68,24 +68,24 @@ found_local P (x ∷ live) local l all found =
     (λ _ is. found_local P live local l (λ k d below. all (suc k) d (omega (arith, below))) is)
     found
 
-module _ (slot : ℕ → ℕ) (live : List LiveLocal) where
+module _ (home : ℕ → ℕ) (live : List LiveLocal) where
   -- the one of that number, if it is live
   abbrev pub live_at : (local : ℕ) → Option LiveLocal
   live_at local = find (λ (l : LiveLocal). l.local == local) live
 
-  pub length-locals_by : (count : ℕ) → length (locals_by slot live count) ≡ count
-  length-locals_by count = length_mapped (λ (local : ℕ). local_by slot (live_at local)) count
+  pub length-locals_by : (count : ℕ) → length (locals_by home live count) ≡ count
+  length-locals_by count = length_mapped (λ (local : ℕ). local_by home (live_at local)) count
 
-  pub local_at : (count local : ℕ) → local < count → slice_index_or (locals_by slot live count) local (pos 0) ≡ local_by slot (live_at local)
-  local_at count local below = mapped_at (λ (local : ℕ). local_by slot (live_at local)) count local below
+  pub local_at : (count local : ℕ) → local < count → slice_index_or (locals_by home live count) local (pos 0) ≡ local_by home (live_at local)
+  local_at count local below = mapped_at (λ (local : ℕ). local_by home (live_at local)) count local below
 
   held_by : (kinds : List Kind) (local : ℕ) (k : Kind) (o : Option LiveLocal) → live_at local ≡ o → HaveKinds kinds live →
-      slice_get kinds local ≡ Some k → Holds k (local_by slot o)
+      slice_get kinds local ≡ Some k → Holds k (local_by home o)
   held_by kinds local k None is have there = Holds-zero k
   held_by kinds local k (Some l) is have there =
       let own = found_local (λ (z : LiveLocal). slice_get kinds z.local ≡ Some z.kind) live local l have is in
       let same : l.kind ≡ k = same_Some l.kind k (sym own.0 ∙ (ap (slice_get kinds) own.1 ∙ there)) in
-      subst (λ (j : Kind). Holds j (local_by slot (Some l))) same (Holds-reduced l.kind (pos (slot l.register)))
+      subst (λ (j : Kind). Holds j (local_by home (Some l))) same (Holds-reduced l.kind (pos (home l.colour)))
 
 -- numbers of these kinds, one by one
 zipped : (kinds : List Kind) (numbers : List ℤ) → length kinds ≡ length numbers →
@@ -96,13 +96,13 @@ zipped (k ∷ kinds) [] long each = absurd (omega (arith, long))
 zipped (k ∷ kinds) (n ∷ numbers) long each = (each 0 k refl, zipped kinds numbers (omega (arith, long)) (λ local j there. each (suc local) j there))
 
 -- each number is one of its local's kind
-pub locals_held : (slot : ℕ → ℕ) (live : List LiveLocal) (kinds : List Kind) → HaveKinds kinds live → AllZip Holds kinds (locals_by slot live (length kinds))
-locals_held slot live kinds have = zipped kinds (locals_by slot live (length kinds)) (sym (length-locals_by slot live (length kinds))) each
+pub locals_held : (home : ℕ → ℕ) (live : List LiveLocal) (kinds : List Kind) → HaveKinds kinds live → AllZip Holds kinds (locals_by home live (length kinds))
+locals_held home live kinds have = zipped kinds (locals_by home live (length kinds)) (sym (length-locals_by home live (length kinds))) each
   where
-    each : (local : ℕ) (k : Kind) → slice_get kinds local ≡ Some k → Holds k (slice_index_or (locals_by slot live (length kinds)) local (pos 0))
+    each : (local : ℕ) (k : Kind) → slice_get kinds local ≡ Some k → Holds k (slice_index_or (locals_by home live (length kinds)) local (pos 0))
     each local k there =
-        subst (Holds k) (sym (local_at slot live (length kinds) local (slice_get_within kinds local k there)))
-        (held_by slot live kinds local k (live_at slot live local) refl have there)
+        subst (Holds k) (sym (local_at home live (length kinds) local (slice_get_within kinds local k there)))
+        (held_by home live kinds local k (live_at home live local) refl have there)
 
 -- ---- Names by their numbers
 
@@ -138,12 +138,12 @@ all_low : (bound : ℕ) (P : LockName → Type 0) (g : LockName → ℕ) → ((x
 all_low bound P g low [] h = tt
 all_low bound P g low (x ∷ xs) h = (low x h.0, all_low bound P g low xs h.1)
 
-module _ (x : Flat) (formed : IsWellFormed x) (thread : ℕ) (slot : ℕ → ℕ) (live : List LiveLocal) (have : HaveKinds (kinds_of_thread x thread) live) where
+module _ (x : Flat) (formed : IsWellFormed x) (thread : ℕ) (home : ℕ → ℕ) (live : List LiveLocal) (have : HaveKinds (kinds_of_thread x thread) live) where
   abbrev kinds : List Kind
   kinds = kinds_of_thread x thread
 
   abbrev numbers : List ℤ
-  numbers = locals_by slot live (length kinds)
+  numbers = locals_by home live (length kinds)
 
   -- each lock of a name is there
   pub locks_low : (held : List ℕ) (lock : ℕ) → has_lock (map (lock_number numbers) (names_at (names_of_thread x thread) held)) lock ≡ true →
@@ -152,7 +152,7 @@ module _ (x : Flat) (formed : IsWellFormed x) (thread : ℕ) (slot : ℕ → ℕ
       let names : List LockName = names_of_thread x thread in
       low_mapped (length x.mutexes) (lock_number numbers) (names_at names held) lock
       (all_low (length x.mutexes) (IsFlatLockName x.mutexes kinds) (lock_number numbers)
-      (λ name h. lock_below x.mutexes kinds numbers name (locals_held slot live kinds have) h)
+      (λ name h. lock_below x.mutexes kinds numbers name (locals_held home live kinds have) h)
       (names_at names held) (all_named (IsFlatLockName x.mutexes kinds) names (formed_from x x.threads thread formed.threads) held)) has
 
 -- ---- How many there are

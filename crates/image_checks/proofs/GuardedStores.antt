@@ -47,6 +47,37 @@ key_is_held vs names h location g key is = by g.used.variable g.used.place g.use
     by variable place None own locked = absurd (none-some key own)
     by variable place (Some index) own locked = key_held vs names h variable place index key own locked
 
+-- ---- Of each set and its node
+
+module _ (P : Held → Node → Type 0) where
+  -- the sets and the nodes, one of each at a time
+  abbrev pub AreAllPaired : List Held → List Node → Type 0
+  AreAllPaired [] [] = Unit {0}
+  AreAllPaired [] (x ∷ xs) = ⊥
+  AreAllPaired (h ∷ hs) [] = ⊥
+  AreAllPaired (h ∷ hs) (x ∷ xs) = P h x × AreAllPaired hs xs
+
+  pub joined : (hs ks : List Held) (xs ys : List Node) → AreAllPaired hs xs → AreAllPaired ks ys → AreAllPaired (hs ++ ks) (xs ++ ys)
+  joined [] ks [] ys a b = b
+  joined [] ks (x ∷ xs) ys a b = absurd a
+  joined (h ∷ hs) ks [] ys a b = absurd a
+  joined (h ∷ hs) ks (x ∷ xs) ys a b = (a.0, joined hs ks xs ys a.1 b)
+
+  pub paired_at : (hs : List Held) (xs : List Node) (n : ℕ) (h : Held) (x : Node) → AreAllPaired hs xs → slice_get hs n ≡ Some h → slice_get xs n ≡ Some x →
+      P h x
+  paired_at [] xs n h x a at there = absurd (none-some h at)
+  paired_at (k ∷ hs) [] n h x a at there = absurd a
+  paired_at (k ∷ hs) (y ∷ xs) zero h x a at there =
+      subst (λ (z : Node). P h z) (same_Some y x there) (subst (λ (z : Held). P z y) (same_Some k h at) a.0)
+  paired_at (k ∷ hs) (y ∷ xs) (suc n) h x a at there = paired_at hs xs n h x a.1 at there
+
+  -- there are as many
+  pub as_many : (hs : List Held) (xs : List Node) → AreAllPaired hs xs → length hs ≡ length xs
+  as_many [] [] a = refl
+  as_many [] (x ∷ xs) a = absurd a
+  as_many (h ∷ hs) [] a = absurd a
+  as_many (h ∷ hs) (x ∷ xs) a = ap suc (as_many hs xs a.1)
+
 -- ---- Nodes and the sets before them
 
 none_either : {X : Type 0} (b : Bool) (x : X) (o : Option X) → cond b (Some x) o ≡ None → (b ≡ false) × (o ≡ None)
@@ -62,32 +93,15 @@ yes true e = refl
 yes false e = absurd (cc)
 
 module _ (vs : List Variable) (names : List e.LockName) where
-  abbrev own : Table
+  abbrev pub own : Table
   own = record { variables = vs; names = names }
 
   -- if it writes
-  abbrev Guarded : Held → Node → Type 0
+  abbrev pub Guarded : Held → Node → Type 0
   Guarded h x = (written : Location) → x.writes ≡ Some written → IsGuardedStore vs names h written
 
-  abbrev AllGuarded : List Held → List Node → Type 0
-  AllGuarded [] [] = Unit {0}
-  AllGuarded [] (x ∷ xs) = ⊥
-  AllGuarded (h ∷ hs) [] = ⊥
-  AllGuarded (h ∷ hs) (x ∷ xs) = Guarded h x × AllGuarded hs xs
-
-  joined : (hs ks : List Held) (xs ys : List Node) → AllGuarded hs xs → AllGuarded ks ys → AllGuarded (hs ++ ks) (xs ++ ys)
-  joined [] ks [] ys a b = b
-  joined [] ks (x ∷ xs) ys a b = absurd a
-  joined (h ∷ hs) ks [] ys a b = absurd a
-  joined (h ∷ hs) ks (x ∷ xs) ys a b = (a.0, joined hs ks xs ys a.1 b)
-
-  guarded_at : (hs : List Held) (xs : List Node) (n : ℕ) (h : Held) (x : Node) → AllGuarded hs xs → slice_get hs n ≡ Some h → slice_get xs n ≡ Some x →
-      Guarded h x
-  guarded_at [] xs n h x a at there = absurd (none-some h at)
-  guarded_at (k ∷ hs) [] n h x a at there = absurd a
-  guarded_at (k ∷ hs) (y ∷ xs) zero h x a at there =
-      subst (λ (z : Node). Guarded h z) (same_Some y x there) (subst (λ (z : Held). Guarded z y) (same_Some k h at) a.0)
-  guarded_at (k ∷ hs) (y ∷ xs) (suc n) h x a at there = guarded_at hs xs n h x a.1 at there
+  abbrev pub AllGuarded : List Held → List Node → Type 0
+  AllGuarded hs xs = AreAllPaired Guarded hs xs
 
   stored : (h : Held) (us rest : List Use) (u : Use) → AreGuarded vs names h (us ++ u ∷ rest) → is_guarded vs names h u ≡ true
   stored h us rest u g = yes (is_guarded vs names h u) (none_there (λ (w : Use). not (is_guarded vs names h w)) us rest u g)
@@ -123,50 +137,50 @@ module _ (vs : List Variable) (names : List e.LockName) where
   )
 
   mutual
-    guarded : {h after : Held} {s : f.Statement} → Keeps vs names h s after → (first next : ℕ) →
+    pub guarded : {h after : Held} {s : f.Statement} → Keeps vs names h s after → (first next : ℕ) →
         AllGuarded (sets_in names h s) (statement_nodes own s first next)
     guarded (assign {h = h} place target value g free) first next = guarded_assign place target value h first next g
     guarded (choose {h = h} place arms otherwise p q) first next =
         let last = entry (statements_count otherwise) (first + arms_count arms) next in
-        joined (sets_in_arms names h arms) (sets_in_all names h otherwise) (arms_nodes own arms place last first next)
+        joined Guarded (sets_in_arms names h arms) (sets_in_all names h otherwise) (arms_nodes own arms place last first next)
         (statements_nodes own otherwise (first + arms_count arms) next)
         (guarded_arms p place last first next) (guarded_all q (first + arms_count arms) next)
     guarded (repeat {h = h} place condition body g p) first next = (λ w is. absurd (none-some w is), guarded_all p (suc first) first)
     guarded (again {h = h} place body condition p g) first next =
-        joined (sets_in_all names h body) (held_after_all names h body ∷ []) (statements_nodes own body first (first + statements_count body))
+        joined Guarded (sets_in_all names h body) (held_after_all names h body ∷ []) (statements_nodes own body first (first + statements_count body))
         (test_node own place condition first next ∷ [])
         (guarded_all p first (first + statements_count body)) (λ w is. absurd (none-some w is), tt)
     guarded (lock {h = h} place name free) first next = (λ w is. absurd (none-some w is), tt)
     guarded (unlock {h = h} place name held) first next = (λ w is. absurd (none-some w is), tt)
 
-    guarded_all : {h after : Held} {ss : f.Statements} → KeepAll vs names h ss after → (first next : ℕ) →
+    pub guarded_all : {h after : Held} {ss : f.Statements} → KeepAll vs names h ss after → (first next : ℕ) →
         AllGuarded (sets_in_all names h ss) (statements_nodes own ss first next)
     guarded_all no_more first next = tt
     guarded_all (then {h = h} x rest p q) first next =
         let further = entry (statements_count rest) (first + count x) next in
         let tail = statements_nodes own rest (first + count x) next in
-        joined (sets_in names h x) _ (statement_nodes own x first further) tail (guarded p first further)
+        joined Guarded (sets_in names h x) _ (statement_nodes own x first further) tail (guarded p first further)
         (subst (λ (k : Held). AllGuarded (sets_in_all names k rest) tail) (sym (boundary_after_is vs names p)) (guarded_all q (first + count x) next))
 
-    guarded_arms : {h after : Held} {arms : f.Arms} → KeepArms vs names h arms after → (place : Place) (last first next : ℕ) →
+    pub guarded_arms : {h after : Held} {arms : f.Arms} → KeepArms vs names h arms after → (place : Place) (last first next : ℕ) →
         AllGuarded (sets_in_arms names h arms) (arms_nodes own arms place last first next)
     guarded_arms no_more_arms place last first next = tt
     guarded_arms (arm {h = h} condition body rest g p q) place last first next =
         let further = suc first + statements_count body in (
           λ w is. absurd (none-some w is),
-          joined (sets_in_all names h body) (sets_in_arms names h rest) (statements_nodes own body (suc first) next)
+          joined Guarded (sets_in_all names h body) (sets_in_arms names h rest) (statements_nodes own body (suc first) next)
               (arms_nodes own rest place last further next)
               (guarded_all p (suc first) next) (guarded_arms q place last further next),
         )
 
-guarded_thread : (x : f.Flat) (t : f.Thread) (first : ℕ) → IsDisciplined x t →
+pub guarded_thread : (x : f.Flat) (t : f.Thread) (first : ℕ) → IsDisciplined x t →
     AllGuarded x.variables (lock_names x t) (thread_sets (lock_names x t) t) (thread_nodes (table_of x t) t first)
 guarded_thread x t first d =
     let names = lock_names x t in
     let start = none_held (length names) in
     let end = first + statements_count t.body in
-    joined x.variables names (sets_in_all names start t.body) (held_after_all names start t.body ∷ []) (statements_nodes (table_of x t) t.body first end)
-    (plain_node t.closing End ∷ []) (guarded_all x.variables names d first end)
+    joined (Guarded x.variables names) (sets_in_all names start t.body) (held_after_all names start t.body ∷ [])
+    (statements_nodes (table_of x t) t.body first end) (plain_node t.closing End ∷ []) (guarded_all x.variables names d first end)
     (λ w is. absurd (none-some w is), tt)
 
 -- ---- At a node of a plan's thread
@@ -175,14 +189,14 @@ module _ (p : Plan) (plan : IsPlan p) (t : Thread) (of : IsThread p t) (node : �
   abbrev names : List e.LockName
   names = lock_names p.flat of.text
 
-  abbrev step : ℕ
+  abbrev pub step : ℕ
   step = node - t.part.first
 
-  record IsBefore : Type 0 where
+  pub record IsBefore : Type 0 where
     pub disciplined : IsDisciplined p.flat of.text
     pub there : slice_get (thread_sets names of.text) step ≡ Some (set_before p t node)
 
-  is_before : IsBefore
+  pub is_before : IsBefore
   is_before =
       let row = found_in p.held t.number (held_there p plan t of) in
       let sets = plan.held.sets t.number of.text row.0 of.of_text row.1 in
@@ -201,5 +215,6 @@ module _ (p : Plan) (plan : IsPlan p) (t : Thread) (of : IsThread p t) (node : �
   pub guarded_store : (is : Node) (location : Location) → NodeAt p.graph node is → is.writes ≡ Some location →
       IsGuardedStore p.flat.variables names (set_before p t node) location
   guarded_store is location at writes =
-      guarded_at p.flat.variables names (thread_sets names of.text) (thread_nodes (table_of p.flat of.text) of.text t.part.first) step (set_before p t node) is
+      paired_at (Guarded p.flat.variables names) (thread_sets names of.text) (thread_nodes (table_of p.flat of.text) of.text t.part.first) step
+      (set_before p t node) is
       (guarded_thread p.flat of.text t.part.first is_before.disciplined) is_before.there (node_in p plan t of node is own_node at) location writes

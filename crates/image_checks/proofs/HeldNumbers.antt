@@ -24,7 +24,7 @@ use Rattle.log_states.proofs.Public.{contains_first, locks_kept}
 use Rattle.log_schemes.specs.SchemeFacts.{AreLoggable}
 use Rattle.recovered_threads.proofs.Public.{has_there}
 use Rattle.source_machine.specs.Discipline.{IsOfName}
-use Rattle.thread_code.specs.Plans.{Plan, Thread, IsPlan, IsThread, IsNodeOf, locks_before, set_before}
+use Rattle.thread_code.specs.Plans.{Plan, Thread, IsPlan, IsThread, IsNodeOf, locks_before, names_in, set_before}
 use Rattle.thread_code.proofs.Public.{names_are}
 use Rattle.flow_graph.specs.Liveness.{IsLive}
 use Rattle.image_checks.specs.Logs.{AreOnce}
@@ -294,17 +294,25 @@ module _ (p : Plan) (plan : IsPlan p) (t : Thread) (of : IsThread p t) where
           let few = plan.formed.shared.mutexes in
           omega (arith, low, same, few)
 
-  -- by numbers that are the same of live locals they are the same
-  pub live_same : (ls js : List ℤ) (node : ℕ) → IsNodeOf t node →
-      ((local : ℕ) → IsLive p.graph local node → slice_index_or ls local (pos 0) ≡ slice_index_or js local (pos 0)) →
-      (k : ℕ) (x : e.LockName) → slice_get names k ≡ Some x → holds (set_before p t node) k ≡ true → lock_number ls x ≡ lock_number js x
-  live_same ls js node own same k x there held =
-      lock_same ls js x (λ local c.
-      same local (plan.keys_live t of node own k local x (ap (λ (ns : List e.LockName). slice_get ns k) (names_are p t of) ∙ there) held c))
+  -- the locals of the keys of held names are among these
+  abbrev pub AreKeysAmong : (Counts : ℕ → Type 0) → (node : ℕ) → Type 0
+  AreKeysAmong Counts node =
+      (k : ℕ) (x : e.LockName) → slice_get (names_in p t) k ≡ Some x → holds (set_before p t node) k ≡ true → (local : ℕ) → Contains (key_locals x) local →
+      Counts local
 
-  pub locks_same : (ls js : List ℤ) (node : ℕ) → IsNodeOf t node →
-      ((local : ℕ) → IsLive p.graph local node → slice_index_or ls local (pos 0) ≡ slice_index_or js local (pos 0)) →
+  pub keys_alive : (node : ℕ) → IsNodeOf t node → AreKeysAmong (λ (local : ℕ). IsLive p.graph local node) node
+  keys_alive node own k x there held local c = plan.keys_live t of node own k local x there held c
+
+  -- by numbers that are the same of these they are the same
+  pub live_same : (Counts : ℕ → Type 0) (ls js : List ℤ) (node : ℕ) → AreKeysAmong Counts node →
+      ((local : ℕ) → Counts local → slice_index_or ls local (pos 0) ≡ slice_index_or js local (pos 0)) →
+      (k : ℕ) (x : e.LockName) → slice_get names k ≡ Some x → holds (set_before p t node) k ≡ true → lock_number ls x ≡ lock_number js x
+  live_same Counts ls js node keys same k x there held =
+      lock_same ls js x (λ local c. same local (keys k x (ap (λ (ns : List e.LockName). slice_get ns k) (names_are p t of) ∙ there) held local c))
+
+  pub locks_same : (Counts : ℕ → Type 0) (ls js : List ℤ) (node : ℕ) → AreKeysAmong Counts node →
+      ((local : ℕ) → Counts local → slice_index_or ls local (pos 0) ≡ slice_index_or js local (pos 0)) →
       locks_before p t ls node ≡ locks_before p t js node
-  locks_same ls js node own same =
+  locks_same Counts ls js node keys same =
       locks_are ls node
-      ∙ (numbers_same ls js names (set_before p t node) (live_same ls js node own same) ∙ sym (locks_are js node))
+      ∙ (numbers_same ls js names (set_before p t node) (live_same Counts ls js node keys same) ∙ sym (locks_are js node))

@@ -1,7 +1,7 @@
 -- What a bank has of live locals whose registers it keeps, and what keys name by them.
-use Rattle.std.proofs.Common.{◌≡◌, ◌≢◌, inl, inr, refl, ℕ, zero, suc, ◌≤◌, sym, ap, ◌∙◌, subst, arith, cond, Option, Some, None, Bool, true, false}
-use Rattle.std.proofs.Common.{List, [], ◌∷◌, map, ℤ}
-use Rattle.std.specs.Prelude.{◌==◌, ◌&&◌, Contains, find, is_some, pos, slice_get, slice_index}
+use Rattle.std.proofs.Common.{◌≡◌, ◌≢◌, inl, inr, refl, ℕ, ◌≤◌, sym, ap, ◌∙◌, subst, arith, cond, Option, Some, None, Bool, true, false}
+use Rattle.std.proofs.Common.{List, [], ◌∷◌, ℤ}
+use Rattle.std.specs.Prelude.{◌==◌, ◌&&◌, Contains, find, is_some, pos, slice_get}
 use Rattle.std.proofs.lemmas.Bool.{eq-eqb, true≢false}
 use Rattle.ido_ints.specs.declared.kinds.Kind.{Kind}
 use Rattle.ido_ints.specs.declared.kinds.Kind.TheVariants.{UnsignedLong}
@@ -16,13 +16,9 @@ use Rattle.c_tree.specs.Values.{key_element, lock_number}
 use Rattle.c_ranges.specs.RunInvariants.{RefersSo}
 use Rattle.flow_graph.specs.HeldKeys.{is_key_of, named_by, names_in}
 use Rattle.log_states.proofs.Public.{contains_cases, contains_none}
-use Rattle.memory_layout.specs.declared.roles.TheConstants.{LOCALS}
-use Rattle.thread_code.specs.Plans.{home_of_colour}
 use Rattle.flat_compile.specs.declared.resumes.LiveLocal.{LiveLocal}
 use Rattle.image_checks.specs.Checks.{IsReferenceWord, IsUnnull}
 use Rattle.image_checks.proofs.ReferenceWords.{word_is, word_of_reference}
-use Rattle.expr_code.specs.declared.home.Home.TheVariants.{InRegister}
-use Rattle.expr_code.specs.EvaluationCode.{home_of}
 
 -- ---- Words of references
 
@@ -47,13 +43,7 @@ pub unnull_word : (vs : List Variable) (known : Bool) (refers : Option ℕ) (k :
 unnull_word vs false refers k z word long right is some = tt
 unnull_word vs true refers k z word long right is some = let so = some refl in some_of vs refers k z word long right is so.0 so.1
 
--- ---- Registers of locals
-
--- each local has a register
-pub home_in : (colours : List ℕ) (local : ℕ) → (register : ℕ) × (home_of (map home_of_colour colours) local ≡ InRegister register)
-home_in [] local = (0, refl)
-home_in (c ∷ colours) zero = (slice_index LOCALS c, refl)
-home_in (c ∷ colours) (suc local) = home_in colours local
+-- ---- Live locals
 
 -- a live local is found by its number
 pub found_some : (live : List LiveLocal) (l : LiveLocal) → Contains live l →

@@ -3,6 +3,11 @@ mod ScheduleLaws
 mod LivesLaws
 mod CheckedLives
 mod Forms
+mod Homes
+mod NextWrites
+mod LeftFrames
+mod AssignedNumbers
+mod KeysBesideAssignments
 mod Worked
 mod Elements
 mod Banks

@@ -1,5 +1,5 @@
 -- What logs say by their words, where these are a machine's durable ones.
-use Rattle.std.proofs.Common.{◌≡◌, ◌≢◌, refl, ℕ, ◌+◌, ◌-◌, ◌*◌, ◌/◌, ◌%◌, ◌<◌, ◌≤◌, List, [], ◌∷◌, length, map, ap, sym, ◌∙◌, subst, arith, inl, inr}
+use Rattle.std.proofs.Common.{◌≡◌, ◌≢◌, refl, ℕ, ◌+◌, ◌-◌, ◌*◌, ◌/◌, ◌%◌, ◌<◌, ◌≤◌, List, [], ◌∷◌, length, map, ap, sym, ◌∙◌, subst, arith, inl, inr, Option}
 use Rattle.std.specs.Prelude.{◌==◌}
 use Rattle.std.specs.List.{Contains}
 use Rattle.std.proofs.lemmas.Bool.{cases_Bool, cond-false, cond-true, eqb-false, eqb-true, eq-eqb, ne_eqb}
@@ -10,19 +10,23 @@ use Rattle.log_schemes.specs.declared.keeping.Keeping.TheVariants.{Masked, Liste
 use Rattle.log_schemes.specs.declared.size.LogSize.{LogSize}
 use Rattle.log_schemes.specs.declared.size.LogSize.TheVariants.{Lines16, Lines32}
 use Rattle.ido_base.specs.Layout.{line_bytes, logs_base}
-use Rattle.log_schemes.specs.Layout.{log_words, point_at, slot_at}
+use Rattle.log_schemes.specs.Layout.{frame_at, log_words, point_at, slot_at}
+use Rattle.log_schemes.specs.declared.addresses.TheConstants.{FRAME}
+use Rattle.log_schemes.specs.declared.locals.Locals.TheVariants.{Frame}
+use Rattle.ido_base.specs.declared.limits.TheConstants.{LOCAL_REGISTERS}
+use Rattle.image_checks.specs.declared.limits.TheConstants.{BANK_SLOTS}
 use Rattle.ido_base.specs.Locks.{mask_with}
 use Rattle.ido_base.specs.Words.{Word}
 use Rattle.c_tree.specs.Exprs.{LockName}
-use Rattle.boundary_code.specs.Boundaries.{slots_kept}
+use Rattle.boundary_code.specs.Boundaries.{pairs_kept, slots_kept}
 use Rattle.log_schemes.specs.Schemes.{bank_distance, bank_slots, keeping_of, kept_as, kept_locks, lines_in_bank, lines_of, listed_from, lock_slot, locks_read}
-use Rattle.log_schemes.specs.Schemes.{register_slot, size_of}
+use Rattle.log_schemes.specs.Schemes.{locals_of, register_slot, size_of}
 use Rattle.log_schemes.specs.declared.point.Point.{Point}
 use Rattle.log_schemes.specs.declared.point.Point.TheVariants.{At, Idle}
 use Rattle.log_schemes.specs.Points.{point_of}
 use Rattle.machine_model.specs.Machine.{bank_of, durable_at, durable_point, record_of, recorded}
-use Rattle.log_schemes.specs.SchemeFacts.{AreLoggable, HasEach}
-use Rattle.log_states.proofs.Public.{contains_cases, contains_first, contains_later, contains_none, locks_kept}
+use Rattle.log_schemes.specs.SchemeFacts.{AreLoggable, HasEach, frame_index}
+use Rattle.log_states.proofs.Public.{contains_cases, contains_first, contains_later, contains_none, locks_kept, scheme}
 use Rattle.flat_compile.specs.declared.resumes.Resume.{Resume}
 use Rattle.image_checks.specs.Logs.{AreFrom, AreOnce, KeepsAs, KeepsLocks, Lists, Logs, locks_at_point, locks_by}
 use Rattle.image_checks.specs.Logs.{log_locks, logged, logs_of, point_in, slot_in}
@@ -47,11 +51,39 @@ slot_in_as : (size : LogSize) (n bank slot words : ℕ) → bank < 2 → slot < 
 slot_in_as Lines16 n bank slot words two own fits = let all : 128 * (n + 1) ≤ words = fits in omega (arith, two, own, all)
 slot_in_as Lines32 n bank slot words two own fits = let all : 256 * (n + 1) ≤ words = fits in omega (arith, two, own, all)
 
+frame_at_as : (size : LogSize) (n word : ℕ) → logs_base ≤ logs_base + line_bytes * lines_of size * n + FRAME + 8 * word
+frame_at_as Lines16 n word = omega arith
+frame_at_as Lines32 n word = omega arith
+
+index_in_as : (size : LogSize) (n i words : ℕ) → i < 8 * lines_of size → 8 * lines_of size * (n + 1) ≤ words →
+    (logs_base + line_bytes * lines_of size * n + 8 * i - logs_base) / 8 < words
+index_in_as Lines16 n i words own fits = let all : 128 * (n + 1) ≤ words = fits in omega (arith, own, all)
+index_in_as Lines32 n i words own fits = let all : 256 * (n + 1) ≤ words = fits in omega (arith, own, all)
+
 pub above_point : (log : Log) (n : ℕ) → logs_base ≤ point_at log n
 above_point log n = point_as (size_of log) n
 
 pub above_slot : (log : Log) (n bank slot : ℕ) → logs_base ≤ slot_at log n bank slot
 above_slot log n bank slot = slot_as (size_of log) n bank slot
+
+pub above_frame : (log : Log) (n word : ℕ) → logs_base ≤ frame_at log n word
+above_frame log n word = frame_at_as (size_of log) n word
+
+-- where locals stand in the frame, each word of it is one of the log
+pub frame_within : (log : Log) (n word words : ℕ) → locals_of log ≡ Frame → word < LOCAL_REGISTERS → log_words log * (n + 1) ≤ words →
+    (frame_at log n word - logs_base) / 8 < words
+frame_within log n word words is below fits =
+    let stands = (scheme log).frame in
+    subst (λ (address : ℕ). (address - logs_base) / 8 < words) (sym (stands.address n word))
+    (index_in_as (size_of log) n (frame_index word) words (stands.inside word is below) fits)
+
+-- a bank has the first slots
+bank_as : (size : LogSize) (slot : ℕ) → slot < 32 → slot < 8 * lines_in_bank size
+bank_as Lines16 slot below = omega (arith, below)
+bank_as Lines32 slot below = omega (arith, below)
+
+pub first_slots : (log : Log) (slot : ℕ) → slot < BANK_SLOTS → slot < bank_slots log
+first_slots log slot below = bank_as (size_of log) slot below
 
 pub point_within : (log : Log) (n words : ℕ) → log_words log * (n + 1) ≤ words → (point_at log n - logs_base) / 8 < words
 point_within log n words fits = point_in_as (size_of log) n words fits
@@ -128,13 +160,13 @@ all_from log f locks has = (
 )
 
 -- a bank that keeps the locks has those of the held names, which are the locks by its slots, each once; with a mask their numbers are those of mutexes
-module _ (f : ℕ → ℕ) (names : List LockName) (count : ℕ) (r : Resume) (locks : List ℕ) (log : Log) where
-  keeps_as : (k : Keeping) → HasEach f (kept_as k log locks) → (k ≡ Masked → r.held.items ≡ locks) → locks_by f names count r ≡ locks → AreOnce locks →
-      KeepsAs k log f names count r
+module _ (f home : ℕ → ℕ) (names : List LockName) (count : ℕ) (r : Resume) (locks : List ℕ) (log : Log) where
+  keeps_as : (k : Keeping) → HasEach f (kept_as k log locks) → (k ≡ Masked → r.held.items ≡ locks) → locks_by home names count r ≡ locks → AreOnce locks →
+      KeepsAs k log f home names count r
   keeps_as Masked has plain same once = has (0, mask_with locks) (contains_first (0, mask_with locks) []) ∙ ap mask_with (sym (plain refl))
   keeps_as Listed has plain same once = (subst (Lists log f) (sym same) (all_from log f locks has), subst AreOnce (sym same) once)
 
-  each_as : (k : Keeping) → KeepsAs k log f names count r → (k ≡ Masked → r.held.items ≡ locks) → locks_by f names count r ≡ locks →
+  each_as : (k : Keeping) → KeepsAs k log f home names count r → (k ≡ Masked → r.held.items ≡ locks) → locks_by home names count r ≡ locks →
       HasEach f (kept_as k log locks)
   each_as Masked keeps plain same one c = elim (contains_cases (0, mask_with locks) [] one c) [
     | inl is ↦ ap (λ (z : ℕ × ℕ). f z.0) is ∙ (keeps ∙ ap mask_with (plain refl)) ∙ sym (ap (λ (z : ℕ × ℕ). z.1) is)
@@ -147,11 +179,11 @@ module _ (f : ℕ → ℕ) (names : List LockName) (count : ℕ) (r : Resume) (l
         | inr rest ↦ listed_has log f 0 locks lists.1 one rest
       ]
 
-  pub keeps_locks : HasEach f (kept_locks log locks) → (keeping_of log ≡ Masked → r.held.items ≡ locks) → locks_by f names count r ≡ locks →
-      AreOnce locks → KeepsLocks log f names count r
+  pub keeps_locks : HasEach f (kept_locks log locks) → (keeping_of log ≡ Masked → r.held.items ≡ locks) → locks_by home names count r ≡ locks →
+      AreOnce locks → KeepsLocks log f home names count r
   keeps_locks has plain same once = keeps_as (keeping_of log) has plain same once
 
-  pub locks_each : KeepsLocks log f names count r → (keeping_of log ≡ Masked → r.held.items ≡ locks) → locks_by f names count r ≡ locks →
+  pub locks_each : KeepsLocks log f home names count r → (keeping_of log ≡ Masked → r.held.items ≡ locks) → locks_by home names count r ≡ locks →
       HasEach f (kept_locks log locks)
   locks_each keeps plain same = each_as (keeping_of log) keeps plain same
 
@@ -168,9 +200,11 @@ contains_mapped (first ∷ kept) one c = elim (contains_cases first kept one c) 
   | inr rest ↦ contains_later first.0 (map (λ (k : ℕ × ℕ). k.0) kept) one.0 (contains_mapped kept one rest)
 ]
 
-pub lock_slot_kept : (log : Log) (locks live : List ℕ) (one : ℕ × ℕ) → Contains (kept_locks log locks) one → Contains (slots_kept log locks live) one.0
-lock_slot_kept log locks live one c =
-    Contains-append_left (map (λ (k : ℕ × ℕ). k.0) (kept_locks log locks)) (map (register_slot log) live) one.0 (contains_mapped (kept_locks log locks) one c)
+pub pair_slot_kept : (log : Log) (locks : List ℕ) (written : Option ℕ) (live : List ℕ) (one : ℕ × ℕ) → Contains (pairs_kept log locks written) one →
+    Contains (slots_kept log locks written live) one.0
+pair_slot_kept log locks written live one c =
+    Contains-append_left (map (λ (k : ℕ × ℕ). k.0) (pairs_kept log locks written)) (map (register_slot log) live) one.0
+    (contains_mapped (pairs_kept log locks written) one c)
 
 register_there : (log : Log) (live : List ℕ) (register : ℕ) → Contains live register → Contains (map (register_slot log) live) (register_slot log register)
 register_there log [] register c = absurd (contains_none register c)
@@ -180,8 +214,8 @@ register_there log (first ∷ live) register c = elim (contains_cases first live
   | inr more ↦ contains_later (register_slot log first) (map (register_slot log) live) (register_slot log register) (register_there log live register more)
 ]
 
-pub register_slot_kept : (log : Log) (locks live : List ℕ) (register : ℕ) → Contains live register →
-    Contains (slots_kept log locks live) (register_slot log register)
-register_slot_kept log locks live register c =
-    Contains-append_right (map (λ (k : ℕ × ℕ). k.0) (kept_locks log locks)) (map (register_slot log) live) (register_slot log register)
+pub register_slot_kept : (log : Log) (locks : List ℕ) (written : Option ℕ) (live : List ℕ) (register : ℕ) → Contains live register →
+    Contains (slots_kept log locks written live) (register_slot log register)
+register_slot_kept log locks written live register c =
+    Contains-append_right (map (λ (k : ℕ × ℕ). k.0) (pairs_kept log locks written)) (map (register_slot log) live) (register_slot log register)
     (register_there log live register c)

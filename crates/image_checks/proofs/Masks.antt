@@ -20,7 +20,7 @@ use Rattle.log_schemes.specs.Schemes as room
 use Rattle.log_schemes.specs.Schemes.{keeping_of, lock_slot, numbers_from, read_as}
 use Rattle.flat_compile.specs.declared.resumes.Resume.{Resume}
 use Rattle.image_checks.specs.Checks.{IsResumableLog, idle, kinds_of_thread, names_of_thread, resumed}
-use Rattle.image_checks.specs.Logs.{AreFrom, AreOnce, HoldsLock, KeepsAs, Lists, Logs, locals_by, locks_at_point, locks_by, names_at, slot_in}
+use Rattle.image_checks.specs.Logs.{AreFrom, AreOnce, HoldsLock, KeepsAs, Lists, Logs, home_in, locals_by, locks_at_point, locks_by, names_at, slot_in}
 use Rattle.image_checks.specs.ResumeSlots.{AllHaveKinds, AllHaveRoom, HasRoom, HaveKinds}
 use Rattle.image_checks.proofs.BankLocals.{few_named, locks_low}
 use Rattle.image_checks.proofs.Points.{found_has}
@@ -184,25 +184,27 @@ module _ (numbers : List ℕ) where
 -- ---- The locks that a bank has
 
 -- by a list they are those of its names
-pub kept_listed : (log : Log) (slot : ℕ → ℕ) (names : List LockName) (count : ℕ) (r : Resume) → room.HasRoom Listed r.held.items →
-    KeepsAs Listed log slot names count r → read_as Listed log slot ≡ locks_by slot names count r
-kept_listed log slot names count r few keeps =
-    let locks : List ℕ = locks_by slot names count r in
+pub kept_listed : (log : Log) (slot home : ℕ → ℕ) (names : List LockName) (count : ℕ) (r : Resume) → room.HasRoom Listed r.held.items →
+    KeepsAs Listed log slot home names count r → read_as Listed log slot ≡ locks_by home names count r
+kept_listed log slot home names count r few keeps =
+    let locks : List ℕ = locks_by home names count r in
     let short : length locks ≤ 16 =
-    omega (arith, few, length-map (names_at names r.held.items) (lock_number (locals_by slot r.live.items count)), few_named names r.held.items) in
+    omega (arith, few, length-map (names_at names r.held.items) (lock_number (locals_by home r.live.items count)), few_named names r.held.items) in
     listed log slot locks short keeps.0
 
-module _ (flat : Flat) (formed : IsWellFormed flat) (thread : ℕ) (slot : ℕ → ℕ) (r : Resume) (have : HaveKinds (kinds_of_thread flat thread) r.live.items) where
+module _ (flat : Flat) (formed : IsWellFormed flat) (thread : ℕ) (slot home : ℕ → ℕ) (r : Resume)
+    (have : HaveKinds (kinds_of_thread flat thread) r.live.items) where
   low_by : (k : Keeping) (log : Log) (lock : ℕ) → room.HasRoom k r.held.items →
-      KeepsAs k log slot (names_of_thread flat thread) (length (kinds_of_thread flat thread)) r → has_lock (read_as k log slot) lock ≡ true → lock < MOST_LOCKS
+      KeepsAs k log slot home (names_of_thread flat thread) (length (kinds_of_thread flat thread)) r → has_lock (read_as k log slot) lock ≡ true →
+      lock < MOST_LOCKS
   low_by Masked log lock room keeps has = elim (cases_lt lock 64) [
     | inl low ↦ omega (arith, low)
     | inr high ↦ absurd (true≢false (sym has ∙ none_high (slot 0) lock high))
   ]
   low_by Listed log lock room keeps has =
       let among = subst (λ (locks : List ℕ). has_lock locks lock ≡ true)
-      (kept_listed log slot (names_of_thread flat thread) (length (kinds_of_thread flat thread)) r room keeps) has in
-      let there : lock < length flat.mutexes = locks_low flat formed thread slot r.live.items have r.held.items lock among in
+      (kept_listed log slot home (names_of_thread flat thread) (length (kinds_of_thread flat thread)) r room keeps) has in
+      let there : lock < length flat.mutexes = locks_low flat formed thread home r.live.items have r.held.items lock among in
       let few : length flat.mutexes ≤ MOST_LOCKS = formed.shared.mutexes in
       omega (arith, there, few)
 
@@ -212,7 +214,7 @@ pub held_low : (flat : Flat) → IsWellFormed flat → (resumes : List Resume) (
 held_low flat formed resumes logs thread lock room kinds (idle point) has =
     absurd (true≢false (sym has ∙ ap (λ (p : Point). has_lock (locks_at_point logs thread p) lock) point))
 held_low flat formed resumes logs thread lock room kinds (resumed address bank r point found right) has =
-    low_by flat formed thread (λ slot. slot_in logs thread bank slot) r
+    low_by flat formed thread (λ slot. slot_in logs thread bank slot) (λ colour. home_in logs thread bank colour) r
     (found_has (λ (z : Resume). HaveKinds (kinds_of_thread flat thread) z.live.items) resumes address r kinds found) (keeping_of logs.log) logs.log lock
     (found_has (HasRoom logs.log) resumes address r room found) right.locks
     (sym (ap (λ (p : Point). has_lock (locks_at_point logs thread p) lock) point) ∙ has)

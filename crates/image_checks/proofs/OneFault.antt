@@ -14,9 +14,10 @@ use Rattle.image_checks.specs.declared.error.ImageError.TheVariants as e
 use Rattle.flat_compile.specs.ResumePlaces.{resumes_at}
 use Rattle.c_tree.specs.Source.{start}
 use Rattle.image_checks.specs.Logs.{Logs, logs_of, point_in}
-use Rattle.log_schemes.specs.Schemes.{keeping_of}
-use Rattle.image_checks.specs.Checks.{AreLocksFirst, HasLocal, HasLocals, HasLocks, IsFirstWrong, IsRight, IsRightBeside, IsBankFault}
-use Rattle.image_checks.specs.Checks.{other_locks, other_number, other_address, other_value}
+use Rattle.log_schemes.specs.Schemes.{keeping_of, locals_of}
+use Rattle.image_checks.specs.Checks.{AreLocalsFirst, AreLocksFirst, HasLocal, HasLocals, HasLocks, HasWrite, IsFirstWrong, home_number}
+use Rattle.image_checks.specs.Checks.{IsRight, IsRightBefore, IsRightBeside, IsBankFault, IsFaultBeside}
+use Rattle.image_checks.specs.Checks.{other_locks, beside, other_number, other_address, other_value}
 use Rattle.image_checks.specs.Checks.{resume_at, IsResumableLog, idle, resumed, IsLogFault, nowhere, of_bank, AreSound, IsThreadFault}
 use Rattle.image_checks.specs.Checks.{AreFirstTwo, IsUnshared, IsMutexFault, shared, of_thread, of_mutexes, of_schedules}
 use Rattle.image_checks.proofs.LivesLaws.{none_in_lives, one_in_lives}
@@ -51,16 +52,40 @@ module _ (flat : Flat) (logs : Logs) (thread bank : ℕ) (live : List LiveLocal)
       let at : get_or live (length g.before) d ≡ g.local =
       ap (λ (ls : List LiveLocal). get_or ls (length g.before) d) g.parts ∙ get_or-append_seam g.before g.local g.after d in
       let equal : f.local ≡ g.local = sym (at_wrong one f) ∙ ap (λ (k : ℕ). get_or live k d) same ∙ at in
-      f.register_is ∙ ap (λ (l : LiveLocal). l.register) equal ∙ sym g.register_is)
+      f.register_is ∙ ap (λ (l : LiveLocal). home_number (locals_of logs.log) l.colour) equal ∙ sym g.register_is)
       (⊎_elim (λ less. absurd (not_before one other f g less)) (λ more. absurd (not_before other one g f more)))
       (cases_order (length f.before) (length g.before))
 
 module _ (flat : Flat) (logs : Logs) (thread bank : ℕ) (r : Resume) where
+  right_beside : (x : ImageError) → IsRightBeside flat logs thread bank r → ¬ (IsFaultBeside flat logs thread bank r x)
+  right_beside x h (other_number register before f) = none_wrong flat logs thread bank r.live.items register h.locals f
+  right_beside x h (other_address locals wrong) = wrong h.write.address
+  right_beside x h (other_value locals stands wrong) = wrong h.write.value
+
   right_bank : (x : ImageError) → IsRight flat logs thread bank r → ¬ (IsBankFault flat logs thread bank r x)
   right_bank x h (other_locks before wrong) = wrong h.locks
-  right_bank x h (other_number register locks f) = none_wrong flat logs thread bank r.live.items register h.locals f
-  right_bank x h (other_address locks locals wrong) = wrong h.address
-  right_bank x h (other_value locks locals address wrong) = wrong h.value
+  right_bank x h (beside y locks f) = right_beside y (record { locals = h.locals; write = h.write }) f
+
+  abbrev LocalsFirst : Type 0
+  LocalsFirst = AreLocalsFirst (locals_of logs.log) → HasLocals flat logs thread bank r.live.items
+
+  -- where a local is wrong and something that is written next too, one of both is looked at first
+  not_both : (register : ℕ) → IsRightBefore flat logs thread bank r → IsFirstWrong flat logs thread bank r.live.items register → LocalsFirst →
+      ¬ (HasWrite flat logs thread bank r) → ⊥
+  not_both register (inl first) f locals wrong = none_wrong flat logs thread bank r.live.items register (locals first) f
+  not_both register (inr write) f locals wrong = wrong write
+
+  one_beside : (x y : ImageError) → IsFaultBeside flat logs thread bank r x → IsFaultBeside flat logs thread bank r y → x ≡ y
+  one_beside x y (other_number register before f) (other_number other before' g) =
+      ap (e.Slot thread) (one_register flat logs thread bank r.live.items register other f g)
+  one_beside x y (other_number register before f) (other_address locals wrong) = absurd (not_both register before f locals (λ h. wrong h.address))
+  one_beside x y (other_number register before f) (other_value locals stands wrong) = absurd (not_both register before f locals (λ h. wrong h.value))
+  one_beside x y (other_address locals wrong) (other_number register before f) = absurd (not_both register before f locals (λ h. wrong h.address))
+  one_beside x y (other_address locals wrong) (other_address locals' wrong') = refl
+  one_beside x y (other_address locals wrong) (other_value locals' stands wrong') = absurd (wrong stands)
+  one_beside x y (other_value locals stands wrong) (other_number register before f) = absurd (not_both register before f locals (λ h. wrong h.value))
+  one_beside x y (other_value locals stands wrong) (other_address locals' wrong') = absurd (wrong' stands)
+  one_beside x y (other_value locals stands wrong) (other_value locals' stands' wrong') = refl
 
   abbrev Before : Type 0
   Before = AreLocksFirst (keeping_of logs.log) ⊎ IsRightBeside flat logs thread bank r
@@ -75,28 +100,9 @@ module _ (flat : Flat) (logs : Logs) (thread bank : ℕ) (r : Resume) where
 
   one_in_bank : (x y : ImageError) → IsBankFault flat logs thread bank r x → IsBankFault flat logs thread bank r y → x ≡ y
   one_in_bank x y (other_locks before wrong) (other_locks before' wrong') = refl
-  one_in_bank x y (other_locks before wrong) (other_number register locks f) =
-      absurd (none_wrong flat logs thread bank r.live.items register (all_right before wrong locks).locals f)
-  one_in_bank x y (other_locks before wrong) (other_address locks locals wrong') = absurd (wrong' (all_right before wrong locks).address)
-  one_in_bank x y (other_locks before wrong) (other_value locks locals address wrong') = absurd (wrong' (all_right before wrong locks).value)
-  one_in_bank x y (other_number register locks f) (other_locks before wrong) =
-      absurd (none_wrong flat logs thread bank r.live.items register (all_right before wrong locks).locals f)
-  one_in_bank x y (other_number register locks f) (other_number other locks' g) =
-      ap (e.Slot thread) (one_register flat logs thread bank r.live.items register other f g)
-  one_in_bank x y (other_number register locks f) (other_address locks' locals wrong) =
-      absurd (none_wrong flat logs thread bank r.live.items register locals f)
-  one_in_bank x y (other_number register locks f) (other_value locks' locals address wrong) =
-      absurd (none_wrong flat logs thread bank r.live.items register locals f)
-  one_in_bank x y (other_address locks locals wrong) (other_locks before wrong') = absurd (wrong (all_right before wrong' locks).address)
-  one_in_bank x y (other_address locks locals wrong) (other_number register locks' f) =
-      absurd (none_wrong flat logs thread bank r.live.items register locals f)
-  one_in_bank x y (other_address locks locals wrong) (other_address locks' locals' wrong') = refl
-  one_in_bank x y (other_address locks locals wrong) (other_value locks' locals' address wrong') = absurd (wrong address)
-  one_in_bank x y (other_value locks locals address wrong) (other_locks before wrong') = absurd (wrong (all_right before wrong' locks).value)
-  one_in_bank x y (other_value locks locals address wrong) (other_number register locks' f) =
-      absurd (none_wrong flat logs thread bank r.live.items register locals f)
-  one_in_bank x y (other_value locks locals address wrong) (other_address locks' locals' wrong') = absurd (wrong' address)
-  one_in_bank x y (other_value locks locals address wrong) (other_value locks' locals' address' wrong') = refl
+  one_in_bank x y (other_locks before wrong) (beside z locks f) = absurd (right_beside z (all_right before wrong locks) f)
+  one_in_bank x y (beside z locks f) (other_locks before wrong) = absurd (right_beside z (all_right before wrong locks) f)
+  one_in_bank x y (beside a locks f) (beside b locks' g) = one_beside a b f g
 
 -- ---- Logs
 

@@ -1,5 +1,5 @@
--- Worked rows of checks: locks by keys, words of references, and references among variables.
-use Rattle.std.proofs.Common.{◌≡◌, ◌==◌, refl, ℕ, ◌≤◌, List, [], ◌∷◌, arith, cond, Some, None, true, false}
+-- Worked rows of checks: locks by keys, words of the frame, what a bank is told, words of references, and references among variables.
+use Rattle.std.proofs.Common.{◌≡◌, ◌==◌, refl, ℕ, ◌≤◌, List, [], ◌∷◌, ◌++◌, arith, cond, replicate, Some, None, true, false}
 use Rattle.std.specs.Prelude.{map, pos, ◌≤ℤ◌}
 use Rattle.std.proofs.lemmas.Int.{ints}
 use Rattle.ido_base.specs.declared.place.Place.{Place}
@@ -13,9 +13,10 @@ use Rattle.c_tree.specs.Values.{element_number, lock_number}
 use Rattle.c_ranges.specs.Laws.{IsNullOrReference}
 use Rattle.variable_words.specs.Variables.{durable_variables}
 use Rattle.flat_compile.specs.declared.resumes.LiveLocal.{LiveLocal}
-use Rattle.image_checks.specs.Checks.{IsReferenceWord, IsUnnull}
-use Rattle.log_schemes.specs.declared.log.Log.TheVariants.{V2}
-use Rattle.image_checks.specs.Logs.{AreOnce, Lists, locals_by, names_at}
+use Rattle.image_checks.specs.Checks.{IsReferenceWord, IsUnnull, bytes_next, home_number}
+use Rattle.log_schemes.specs.declared.log.Log.TheVariants.{V2, Justdo}
+use Rattle.log_schemes.specs.Schemes.{locals_of, told}
+use Rattle.image_checks.specs.Logs.{AreOnce, HavePairs, Lists, home_in, locals_by, logs_of, names_at}
 use Rattle.image_checks.specs.VariableReferences.{IsNumberRight, numbers_in}
 
 abbrev at : ℕ → Place
@@ -32,17 +33,21 @@ names =
     ∷ record { mutex = 1; key = Some (record { place = at 1; expr = e.Local 0 UnsignedChar }) } ∷ []
 
 abbrev index : LiveLocal
-index = record { register = 5; local = 0; kind = UnsignedChar; refers = None; known = false }
+index = record { colour = 5; local = 0; kind = UnsignedChar; refers = None; known = false }
 
--- register 5 has 258, which is 2 as an `unsigned char`, and two locks are listed
+-- the home of colour 5 has 258, which is 2 as an `unsigned char`
+abbrev home : ℕ → ℕ
+home k = cond (k == 5) 258 0
+
+-- and two locks are listed
 abbrev slot : ℕ → ℕ
-slot k = cond (k == 0) 2 (cond (k == 5) 258 (cond (k == 33) 3 0))
+slot k = cond (k == 0) 2 (cond (k == 33) 3 0)
 
-of_a_live_local : locals_by slot (index ∷ []) 2 ≡ pos 2 ∷ pos 0 ∷ []
+of_a_live_local : locals_by home (index ∷ []) 2 ≡ pos 2 ∷ pos 0 ∷ []
 unfolding from_least_on
 of_a_live_local = refl
 
-by_keys : map (lock_number (locals_by slot (index ∷ []) 2)) (names_at names (0 ∷ 1 ∷ [])) ≡ 0 ∷ 3 ∷ []
+by_keys : map (lock_number (locals_by home (index ∷ []) 2)) (names_at names (0 ∷ 1 ∷ [])) ≡ 0 ∷ 3 ∷ []
 unfolding from_least_on
 by_keys = refl
 
@@ -55,6 +60,27 @@ past_the_names = refl
 
 stands_twice : ¬ (AreOnce (3 ∷ 3 ∷ []))
 stands_twice once = let same : 0 ≡ 1 = once 0 1 3 refl refl in omega (arith, same)
+
+-- ---- Where locals stand in the frame
+
+-- its first word is the 65th of the log
+first_word : home_in (logs_of Justdo (replicate 64 0 ++ 7 ∷ [])) 0 0 0 ≡ 7
+unfolding home_in
+first_word = refl
+
+told_as_register : home_number (locals_of V2) 2 ≡ 11
+told_as_register = refl
+
+told_as_word : home_number (locals_of Justdo) 2 ≡ 34
+told_as_word = refl
+
+-- eight bytes are told, though nothing is written next
+nothing_comes : ¬ (HavePairs (λ k. cond (k == 3) 8 0) (told Justdo (bytes_next [] None None)))
+nothing_comes (address, (value, (bytes, rest))) = let wrong : 8 ≡ 0 = bytes in omega (arith, wrong)
+
+-- a local is: of which address and value nothing is said here
+a_local_comes : HavePairs (λ k. cond (k == 3) 8 5) (told Justdo (bytes_next [] None (Some index)))
+a_local_comes = (refl, tt)
 
 -- ---- `long a[4]; ref(a) h;`
 

@@ -1,18 +1,18 @@
--- What a table of places is of: each live local is of its thread and its register has a slot, and a bank has room for the locks.
+-- What a table of places is of: each live local is of its thread and has a home, and a bank has room for the locks.
 use Rattle.std.specs.Prelude.{◌≡◌, ◌<◌, ℕ, List, All, Some, Vec, slice_get}
 use Rattle.std.specs.Global.{Global}
 use Rattle.log_schemes.specs.Schemes.{HaveRoom}
 use Rattle.log_schemes.specs.declared.log.Log.{Log}
 use Rattle.ido_ints.specs.declared.kinds.Kind.{Kind}
 use Rattle.c_tree.specs.Flats.{Flat}
-use Rattle.image_checks.specs.declared.limits.TheConstants.{BANK_SLOTS}
+use Rattle.ido_base.specs.declared.limits.TheConstants.{LOCAL_REGISTERS}
 use Rattle.flat_compile.specs.declared.resumes.LiveLocal.{LiveLocal}
 use Rattle.flat_compile.specs.declared.resumes.Resume.{Resume}
 use Rattle.flat_compile.specs.ResumePlaces.{resumes_at}
 use Rattle.image_checks.specs.Checks.{kinds_of_thread}
 
 abbrev pub HaveSlots : List LiveLocal → Type 0
-HaveSlots live = All (λ (l : LiveLocal). l.register < BANK_SLOTS) live
+HaveSlots live = All (λ (l : LiveLocal). l.colour < LOCAL_REGISTERS) live
 
 abbrev pub AllHaveSlots : List Resume → Type 0
 AllHaveSlots resumes = All (λ (r : Resume). HaveSlots r.live.items) resumes

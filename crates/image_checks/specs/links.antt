@@ -2,5 +2,5 @@ pub mod Errors
 pub mod PrefixBeforeFault
 pub mod Holders
 pub mod LocationElements
-pub mod BankFaults
 pub mod ElementNumbers
+pub mod BankFaults

@@ -10,11 +10,11 @@ ghost use Rattle.c_tree.specs.LockNames as locks;
 ghost use Rattle.c_tree.specs.links.KnownNames.{names_of};
 ghost use Rattle.flat_compile.specs.declared.resumes.LiveLocal.{LiveLocal};
 ghost use Rattle.image_checks.specs.Checks.{kinds_of_thread, names_of_thread};
-ghost use Rattle.image_checks.specs.Logs.{AreOnce, Lists, local_by, locals_by, logs_of, slot_in};
+ghost use Rattle.image_checks.specs.Logs.{AreOnce, Lists, home_in, local_by, locals_by, logs_of, slot_in};
 ghost use Rattle.image_checks.specs.ResumeSlots.{HaveSlots};
 
 use crate::limits::MASK_BITS;
-use crate::logs::{listed_in, slot_in};
+use crate::logs::{home_in, listed_in, slot_in};
 use crate::slots::reduced;
 use c_tree::expr::LockRef;
 use c_tree::flat::{Flat, Thread};
@@ -85,10 +85,10 @@ fn local_by(
     requires log { log_words log * (thread + 1) ≤ length logs.now }
     requires bank { bank < 2 }
     ensures { result ≡
-        local_by (λ slot. slot_in (logs_of log logs.now) thread bank slot) (find (λ (l : LiveLocal). l.local == local) live.now) }
+        local_by (λ colour. home_in (logs_of log logs.now) thread bank colour) (find (λ (l : LiveLocal). l.local == local) live.now) }
 {
     match live_local(live, local) {
-        Some(found) => reduced(found.kind, slot_in(log, logs, thread, bank, found.register)),
+        Some(found) => reduced(found.kind, home_in(log, logs, thread, bank, found.colour)),
         None => 0,
     }
 }
@@ -106,7 +106,7 @@ pub fn locals_by(
     requires slots { HaveSlots live.now }
     requires log { log_words log * (thread + 1) ≤ length logs.now }
     requires bank { bank < 2 }
-    ensures { IfOk result (λ numbers. numbers.items ≡ locals_by (λ slot. slot_in (logs_of log logs.now) thread bank slot) live.now count) }
+    ensures { IfOk result (λ numbers. numbers.items ≡ locals_by (λ colour. home_in (logs_of log logs.now) thread bank colour) live.now count) }
 {
     let mut numbers = Vec::new(alloc);
     for local in 0..count {

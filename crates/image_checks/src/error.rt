@@ -25,8 +25,9 @@ pub enum ImageError {
     Point { thread: u32 },
     /// Where the thread is resumed, it holds other mutexes than its log says.
     Mask { thread: u32 },
-    /// No local that is live in the register where the thread is resumed has such a number; or, of register 28,
-    /// no element that the thread may write next has this address; or, of register 29, that element is a reference, and no such number is one.
+    /// No local that is live in the register where the thread is resumed has such a number, and from 32 on in the word of the frame of that number less 32;
+    /// or, of register 28, nothing that the thread may write next has this address or so many bytes, or nothing is written next and the bank tells of a write;
+    /// or, of register 29, that is a reference or a local, and no such number is one that it may have.
     Slot { thread: u32, register: u8 },
     /// Both threads hold the mutex of this number.
     Shared { lock: u32, first: u32, second: u32 },

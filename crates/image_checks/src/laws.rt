@@ -14,8 +14,9 @@ pub fn images_have_one_fault()
 {}
 
 /// What a crash leaves of a run of a compiled source has no fault, whatever happened before: steps, evictions and crashes, in any
-/// order. Each thread's point is 0 or an address in the table, with its locks, a number of its kind for each live local, and the
-/// address of an element that its pending store may write; references are null, where that may be, or lead to elements; no two threads hold one mutex; and
+/// order. Each thread's point is 0 or an address in the table, with its locks, a number of its kind for each live local, and where something is written
+/// next, the address of an element that its pending store may write, or of the word of a local that it assigns, with a number that this may have;
+/// references are null, where that may be, or lead to elements; no two threads hold one mutex; and
 /// the source makes the kept steps.
 pub fn runs_leave_no_fault()
     ensures state { RunsLeaveNoFault }

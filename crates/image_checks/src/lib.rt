@@ -13,3 +13,4 @@ mod schedules;
 mod slots;
 pub mod state;
 mod threads;
+mod writes;

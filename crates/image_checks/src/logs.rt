@@ -1,17 +1,21 @@
 //! The durable words of logs.
 ghost use Rattle.std.specs.Prelude.{◌≡◌, ◌==◌, ◌+◌, ◌-◌, ◌*◌, ◌/◌, ◌<◌, ◌≤◌, length};
 ghost use Rattle.log_schemes.specs.declared.keeping.Keeping.TheVariants.{Listed};
-ghost use Rattle.log_schemes.specs.Schemes.{keeping_of, lock_slot, locks_read, read_as};
-ghost use Rattle.log_schemes.specs.Layout.{log_words};
+ghost use Rattle.log_schemes.specs.declared.locals.Locals.TheVariants.{Frame};
+ghost use Rattle.log_schemes.specs.Schemes.{keeping_of, locals_of, lock_slot, locks_read, read_as};
+ghost use Rattle.log_schemes.specs.Layout.{frame_at, log_words};
 ghost use Rattle.ido_base.specs.Locks.{has_lock, locks_in};
 ghost use Rattle.crash_images.specs.Contents.{word_bytes};
-ghost use Rattle.image_checks.specs.Logs.{log_locks, logged, logs_of, point_in, slot_in};
+ghost use Rattle.image_checks.specs.Logs.{home_in, log_locks, logged, logs_of, point_in, register_in, slot_in};
+ghost use Rattle.ido_base.specs.declared.limits.TheConstants.{LOCAL_REGISTERS};
 
 use crate::limits::{BANK_SLOTS, MASK_BITS};
-use log_schemes::addresses::{LOCKS_SLOT, LOGS_BASE, SLOT_BYTES, point_at, slot_at};
+use log_schemes::addresses::{LOCKS_SLOT, LOGS_BASE, SLOT_BYTES, frame_at, point_at, slot_at};
 use log_schemes::keeping::Keeping;
+use log_schemes::locals::Locals;
 use log_schemes::log::{Log, MOST_LISTED};
 use log_schemes::point::{Point, read_point};
+use memory_layout::roles::LOCALS;
 
 /// The word at an address of the logs.
 fn logged(logs: &[u64], address: u64) -> u64
@@ -30,7 +34,7 @@ pub fn point_in(log: Log, logs: &[u64], thread: u32) -> Point
     read_point(logged(logs, point_at(log, thread)))
 }
 
-/// What is in the slot of a register, or in slot 0, of a bank, 0 or 1, of the thread's log.
+/// What is in one of the first slots of a bank, 0 or 1, of the thread's log.
 pub fn slot_in(log: Log, logs: &[u64], thread: u32, bank: u32, slot: u8) -> u64
     requires log { log_words log * (thread + 1) ≤ length logs.now }
     requires bank { bank < 2 }
@@ -38,6 +42,42 @@ pub fn slot_in(log: Log, logs: &[u64], thread: u32, bank: u32, slot: u8) -> u64
     ensures { result ≡ slot_in (logs_of log logs.now) thread bank slot }
 {
     logged(logs, slot_at(log, thread, bank, u32::from(slot)))
+}
+
+/// What a bank keeps of a register.
+pub fn register_in(log: Log, logs: &[u64], thread: u32, bank: u32, register: u8) -> u64
+    requires log { log_words log * (thread + 1) ≤ length logs.now }
+    requires bank { bank < 2 }
+    requires register { register < 32 }
+    ensures { result ≡ register_in (logs_of log logs.now) thread bank register }
+{
+    logged(
+        logs,
+        slot_at(log, thread, bank, u32::from(log.register_slot(register))),
+    )
+}
+
+/// What is in a word of the thread's frame.
+fn frame_in(log: Log, logs: &[u64], thread: u32, word: u8) -> u64
+    requires log { log_words log * (thread + 1) ≤ length logs.now }
+    requires frame { locals_of log ≡ Frame }
+    requires word { word < LOCAL_REGISTERS }
+    ensures { result ≡ logged logs.now (frame_at log thread word) }
+{
+    logged(logs, frame_at(log, thread, u32::from(word)))
+}
+
+/// What stands in the home of the locals of a colour: in the bank, or in the frame.
+pub fn home_in(log: Log, logs: &[u64], thread: u32, bank: u32, colour: u8) -> u64
+    requires log { log_words log * (thread + 1) ≤ length logs.now }
+    requires bank { bank < 2 }
+    requires colour { colour < LOCAL_REGISTERS }
+    ensures { result ≡ home_in (logs_of log logs.now) thread bank colour }
+{
+    match log.locals() {
+        Locals::Registers => register_in(log, logs, thread, bank, LOCALS[colour as usize]),
+        Locals::Frame => frame_in(log, logs, thread, colour),
+    }
 }
 
 /// What is in a slot of those that list locks.

@@ -7,12 +7,13 @@ ghost use Rattle.c_tree.specs.links.KnownNames.{names_of};
 ghost use Rattle.flow_graph.specs.HeldKeys.{names_in};
 ghost use Rattle.ido_ints.specs.Reduction.{reduced};
 ghost use Rattle.memory_layout.specs.Variables.{AreAddresses};
-ghost use Rattle.image_checks.specs.Checks.{IsForm, IsElementOf, IsReferenceWord, IsUnnull};
+ghost use Rattle.image_checks.specs.Checks.{IsForm, IsElementOf, IsLocalWord, IsReferenceWord, IsUnnull};
 ghost use Rattle.image_checks.specs.links.LocationElements.{IsElementIn, IsNumberedIn};
 
 use crate::keys::named_element;
 use c_tree::expr::LockRef;
 use c_tree::program::Variable;
+use flat_compile::resumes::LiveLocal;
 use ido_base::location::Location;
 use ido_ints::{Kind, Value, register_form};
 use source_machine::variables::Variables;
@@ -58,6 +59,19 @@ pub fn is_unnull(known: bool, word: u64) -> bool
     ensures { IsTrue result ↔ IsUnnull known word }
 {
     if known { word != 0 } else { true }
+}
+
+/// Whether the word is a number that the local may have.
+pub fn is_local_word(variables: &[Variable], local: LiveLocal, word: u64) -> bool
+    ensures { IsTrue result ↔ IsLocalWord (map variable_of variables.now) local word }
+{
+    if !is_form(local.kind, word) {
+        return false;
+    }
+    if !is_reference(variables, local.refers, word) {
+        return false;
+    }
+    is_unnull(local.known, word)
 }
 
 // ---- Elements

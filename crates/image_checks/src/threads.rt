@@ -1,59 +1,53 @@
 //! Whether threads can be resumed by their logs.
-ghost use Rattle.std.specs.Prelude.{◌≡◌, ◌==◌, ◌↔◌, ◌+◌, ◌*◌, ◌<◌, ◌≤◌, ℕ, [], length, map};
-ghost use Rattle.std.specs.Prelude.{IfSome, IsTrue, MatchOption, MatchResult};
+ghost use Rattle.std.specs.Prelude.{◌≡◌, ◌+◌, ◌*◌, ◌<◌, ◌≤◌, [], length, map};
+ghost use Rattle.std.specs.Prelude.{MatchOption, MatchResult};
 ghost use Rattle.std.specs.Option.{option_copied};
-ghost use Rattle.ido_base.specs.declared.limits.TheConstants.{MOST_THREADS};
+ghost use Rattle.ido_base.specs.declared.limits.TheConstants.{LOCAL_REGISTERS, MOST_THREADS};
 ghost use Rattle.log_schemes.specs.declared.keeping.Keeping.TheVariants.{Masked, Listed};
-ghost use Rattle.log_schemes.specs.Schemes.{keeping_of};
-ghost use Rattle.ido_base.specs.declared.location.Location.{Location};
+ghost use Rattle.log_schemes.specs.declared.locals.Locals.TheVariants.{Frame, Registers};
+ghost use Rattle.log_schemes.specs.Schemes.{keeping_of, locals_of};
 ghost use Rattle.log_schemes.specs.Layout.{log_words};
 ghost use Rattle.c_tree.specs.Flats.{flat_of};
-ghost use Rattle.c_tree.specs.Programs.{variable_of};
-ghost use Rattle.c_tree.specs.References.{variable_refers};
 ghost use Rattle.c_tree.specs.WellFormed.{shape_of};
 ghost use Rattle.c_tree.specs.links.KnownNames.{names_of};
-ghost use Rattle.flow_graph.specs.HeldKeys.{names_in};
 ghost use Rattle.memory_layout.specs.Variables.{AreAddresses};
-ghost use Rattle.image_checks.specs.Checks.{bank_locals, kinds_of_thread, names_of_thread};
-ghost use Rattle.image_checks.specs.Checks.{HasLocal, HasLocals, IsElementOf, IsFirstWrong, IsLocalWord, IsReferenceWord, IsRight, IsRightBeside, IsBankFault};
+ghost use Rattle.image_checks.specs.Checks.{bank_locals, home_number, kinds_of_thread, names_of_thread};
+ghost use Rattle.image_checks.specs.Checks.{HasLocals, IsFaultBeside, IsFirstWrong, IsRight, IsRightBeside, IsBankFault};
 ghost use Rattle.image_checks.specs.Checks.{resume_at, IsResumableLog, IsLogFault, AreSound, IsThreadFault};
-ghost use Rattle.image_checks.specs.Logs.{locks_by, logs_of, slot_in};
+ghost use Rattle.image_checks.specs.Logs.{home_in, locks_by, logs_of};
 ghost use Rattle.image_checks.specs.ResumeSlots.{HaveSlots, AllHaveSlots, TablesHaveSlots, HasRoom, AllHaveRoom, TablesHaveRoom};
-ghost use Rattle.image_checks.specs.links.BankFaults.{IsFaultBeside};
+ghost use Rattle.image_checks.specs.links.BankFaults.{IsLocalFault};
 ghost use Rattle.image_checks.specs.links.Errors.{IsFaultOrMemory};
 
 use crate::bank::{are_once, has_mask, lists, locals_by, locals_of_thread, names_of_thread};
 use crate::error::ImageError;
 use crate::keys::locks_of;
-use crate::limits::BANK_SLOTS;
-use crate::logs::{point_in, slot_in};
-use crate::slots::{is_element_of, is_form, is_reference, is_unnull};
+use crate::limits::FIRST_FRAME_NUMBER;
+use crate::logs::{home_in, point_in};
+use crate::slots::is_local_word;
+use crate::writes::check_write;
 use c_tree::expr::LockRef;
 use c_tree::flat::Flat;
-use c_tree::program::Variable;
 use flat_compile::resumes::{LiveLocal, Resume};
-use ido_base::location::Location;
 use log_schemes::keeping::Keeping;
+use log_schemes::locals::Locals;
 use log_schemes::log::{Log, MOST_LISTED};
 use log_schemes::point::Point;
-use memory_layout::roles::{PENDING_ADDRESS, PENDING_VALUE};
-use source_machine::variables::Variables;
+use memory_layout::roles::LOCALS;
 use std::alloc::Global;
 
-/// Whether the word is a number that the local may have.
-fn is_local_word(flat: &Flat, local: LiveLocal, word: u64) -> bool
-    ensures { IsTrue result ↔ IsLocalWord (flat_of flat.now).variables local word }
+/// The number by which the home of the locals of a colour is told.
+fn home_number(log: Log, colour: u8) -> u8
+    requires { colour < LOCAL_REGISTERS }
+    ensures { result ≡ home_number (locals_of log) colour }
 {
-    if !is_form(local.kind, word) {
-        return false;
+    match log.locals() {
+        Locals::Registers => LOCALS[colour as usize],
+        Locals::Frame => FIRST_FRAME_NUMBER + colour,
     }
-    if !is_reference(&flat.variables, local.refers, word) {
-        return false;
-    }
-    is_unnull(local.known, word)
 }
 
-/// The first register of these locals in whose slot is no number that its local may have.
+/// The number of the home of the first of these locals in which no number stands that it may have.
 fn wrong_register(
     log: Log,
     flat: &Flat,
@@ -70,64 +64,95 @@ fn wrong_register(
 {
     for local in live {
         if !is_local_word(
-            flat,
+            &flat.variables,
             *local,
-            slot_in(log, logs, thread, bank, local.register),
+            home_in(log, logs, thread, bank, local.colour),
         ) {
-            return Some(local.register);
+            return Some(home_number(log, local.colour));
         }
     }
     None
 }
 
-/// What the elements of the variable of that number refer to.
-fn variable_refers(variables: &[Variable], variable: u32) -> Option<u32>
-    ensures { result ≡ variable_refers (map variable_of variables.now) variable }
+/// The first fault of these locals.
+fn check_locals(
+    log: Log,
+    flat: &Flat,
+    live: &[LiveLocal],
+    logs: &[u64],
+    thread: u32,
+    bank: u32,
+) -> Result<(), ImageError>
+    requires slots { HaveSlots live.now }
+    requires log { log_words log * (thread + 1) ≤ length logs.now }
+    requires bank { bank < 2 }
+    ensures { MatchResult result (λ _. HasLocals (flat_of flat.now) (logs_of log logs.now) thread bank live.now)
+        (IsLocalFault (flat_of flat.now) (logs_of log logs.now) thread bank live.now) }
 {
-    match variables.get(variable as usize) {
-        Some(found) => found.refers,
-        None => None,
+    match wrong_register(log, flat, live, logs, thread, bank) {
+        Some(register) => Err(ImageError::Slot { thread, register }),
+        None => Ok(()),
     }
 }
 
-/// Whether the address is that of an element that may be written, where a store is pending.
-fn is_address(
+/// The first fault of a bank by which the thread is resumed there, but for its locks, where locals stand in registers: these are looked at before what is
+/// written next.
+fn check_registers(
     alloc: Global,
-    variables: &[Variable],
+    log: Log,
+    flat: &Flat,
     addresses: &[u32],
     names: &[LockRef<'_>],
     locals: &[i128],
-    pending: Option<Location>,
-    address: u64,
-) -> bool
-    requires { AreAddresses (map shape_of (map variable_of variables.now)) addresses.now }
-    ensures { IsTrue result ↔ IfSome pending (λ (l : Location). IsElementOf (map variable_of variables.now)
-        (names_in (map variable_of variables.now) (names_of names.now) locals.now) l address) }
+    logs: &[u64],
+    thread: u32,
+    bank: u32,
+    resume: &Resume,
+) -> Result<(), ImageError>
+    requires registers { locals_of log ≡ Registers }
+    requires addresses { AreAddresses (map shape_of (flat_of flat.now).variables) addresses.now }
+    requires names { names_of names.now ≡ names_of_thread (flat_of flat.now) thread }
+    requires locals { locals.now ≡ bank_locals (flat_of flat.now) (logs_of log logs.now) thread bank resume.now.live.items }
+    requires slots { HaveSlots resume.now.live.items }
+    requires log { log_words log * (thread + 1) ≤ length logs.now }
+    requires bank { bank < 2 }
+    ensures { MatchResult result (λ _. IsRightBeside (flat_of flat.now) (logs_of log logs.now) thread bank resume.now)
+        (IsFaultBeside (flat_of flat.now) (logs_of log logs.now) thread bank resume.now) }
 {
-    match pending {
-        Some(location) => {
-            let none = Variables::none(alloc);
-            is_element_of(
-                variables, addresses, names, locals, &none, location, address,
-            )
-        }
-        None => true,
-    }
+    check_locals(log, flat, &resume.live, logs, thread, bank)?;
+    check_write(
+        alloc, log, flat, addresses, names, locals, logs, thread, bank, resume,
+    )
 }
 
-/// Whether the word is one of what the pending store writes, if there is one.
-fn is_value(variables: &[Variable], pending: Option<Location>, word: u64) -> bool
-    ensures { IsTrue result ↔ IfSome pending (λ (l : Location).
-        IsReferenceWord (map variable_of variables.now) (variable_refers (map variable_of variables.now) l.variable) word) }
+/// The first fault of a bank by which the thread is resumed there, but for its locks, where locals stand in the frame: they are looked at after what is
+/// written next.
+fn check_frame(
+    alloc: Global,
+    log: Log,
+    flat: &Flat,
+    addresses: &[u32],
+    names: &[LockRef<'_>],
+    locals: &[i128],
+    logs: &[u64],
+    thread: u32,
+    bank: u32,
+    resume: &Resume,
+) -> Result<(), ImageError>
+    requires frame { locals_of log ≡ Frame }
+    requires addresses { AreAddresses (map shape_of (flat_of flat.now).variables) addresses.now }
+    requires names { names_of names.now ≡ names_of_thread (flat_of flat.now) thread }
+    requires locals { locals.now ≡ bank_locals (flat_of flat.now) (logs_of log logs.now) thread bank resume.now.live.items }
+    requires slots { HaveSlots resume.now.live.items }
+    requires log { log_words log * (thread + 1) ≤ length logs.now }
+    requires bank { bank < 2 }
+    ensures { MatchResult result (λ _. IsRightBeside (flat_of flat.now) (logs_of log logs.now) thread bank resume.now)
+        (IsFaultBeside (flat_of flat.now) (logs_of log logs.now) thread bank resume.now) }
 {
-    match pending {
-        Some(location) => is_reference(
-            variables,
-            variable_refers(variables, location.variable),
-            word,
-        ),
-        None => true,
-    }
+    check_write(
+        alloc, log, flat, addresses, names, locals, logs, thread, bank, resume,
+    )?;
+    check_locals(log, flat, &resume.live, logs, thread, bank)
 }
 
 /// The first fault of a bank by which the thread is resumed there, but for its locks.
@@ -152,35 +177,17 @@ fn check_beside(
     ensures { MatchResult result (λ _. IsRightBeside (flat_of flat.now) (logs_of log logs.now) thread bank resume.now)
         (IsFaultBeside (flat_of flat.now) (logs_of log logs.now) thread bank resume.now) }
 {
-    if let Some(register) = wrong_register(log, flat, &resume.live, logs, thread, bank) {
-        return Err(ImageError::Slot { thread, register });
+    match log.locals() {
+        Locals::Registers => check_registers(
+            alloc, log, flat, addresses, names, locals, logs, thread, bank, resume,
+        ),
+        Locals::Frame => check_frame(
+            alloc, log, flat, addresses, names, locals, logs, thread, bank, resume,
+        ),
     }
-    let address = slot_in(log, logs, thread, bank, PENDING_ADDRESS);
-    if !is_address(
-        alloc,
-        &flat.variables,
-        addresses,
-        names,
-        locals,
-        resume.pending,
-        address,
-    ) {
-        return Err(ImageError::Slot {
-            thread,
-            register: PENDING_ADDRESS,
-        });
-    }
-    let value = slot_in(log, logs, thread, bank, PENDING_VALUE);
-    if !is_value(&flat.variables, resume.pending, value) {
-        return Err(ImageError::Slot {
-            thread,
-            register: PENDING_VALUE,
-        });
-    }
-    Ok(())
 }
 
-/// The first fault of a bank with a mask, by which the thread is resumed there: locks are looked at before registers.
+/// The first fault of a bank with a mask, by which the thread is resumed there: locks are looked at before all else.
 fn check_masked(
     alloc: Global,
     log: Log,
@@ -212,7 +219,7 @@ fn check_masked(
     )
 }
 
-/// The first fault of a bank with a list, by which the thread is resumed there, where it holds these locks: they are looked at after registers.
+/// The first fault of a bank with a list, by which the thread is resumed there, where it holds these locks: they are looked at last.
 fn check_listed(
     alloc: Global,
     log: Log,
@@ -230,7 +237,7 @@ fn check_listed(
     requires addresses { AreAddresses (map shape_of (flat_of flat.now).variables) addresses.now }
     requires names { names_of names.now ≡ names_of_thread (flat_of flat.now) thread }
     requires locals { locals.now ≡ bank_locals (flat_of flat.now) (logs_of log logs.now) thread bank resume.now.live.items }
-    requires locks { locks.now ≡ locks_by (λ slot. slot_in (logs_of log logs.now) thread bank slot) (names_of_thread (flat_of flat.now) thread)
+    requires locks { locks.now ≡ locks_by (λ colour. home_in (logs_of log logs.now) thread bank colour) (names_of_thread (flat_of flat.now) thread)
         (length (kinds_of_thread (flat_of flat.now) thread)) resume.now }
     requires few { length locks.now ≤ MOST_LISTED }
     requires slots { HaveSlots resume.now.live.items }

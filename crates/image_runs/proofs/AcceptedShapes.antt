@@ -15,10 +15,12 @@ use Rattle.log_schemes.specs.declared.keeping.Keeping.TheVariants.{Masked, Liste
 use Rattle.log_schemes.specs.declared.size.LogSize.{LogSize}
 use Rattle.log_schemes.specs.declared.size.LogSize.TheVariants.{Lines16, Lines32}
 use Rattle.log_schemes.specs.Schemes as schemes
-use Rattle.log_schemes.specs.Schemes.{keeping_of, lines_of}
-use Rattle.ido_base.specs.Layout.{variable_lines}
-use Rattle.ido_base.specs.Layout.{logs_base}
-use Rattle.log_schemes.specs.Layout.{log_words, word_count}
+use Rattle.log_schemes.specs.Schemes.{keeping_of, lines_of, locals_of, register_slot}
+use Rattle.log_schemes.specs.declared.locals.Locals.{Locals}
+use Rattle.log_schemes.specs.declared.locals.Locals.TheVariants.{Frame, Registers}
+use Rattle.memory_layout.specs.declared.roles.TheConstants.{LOCALS}
+use Rattle.ido_base.specs.Layout.{logs_base, variable_lines}
+use Rattle.log_schemes.specs.Layout.{frame_at, log_words, word_count}
 use Rattle.ido_base.specs.Locks.{has_lock}
 use Rattle.ido_base.specs.Words.{Word, word_of}
 use Rattle.ido_ints.specs.declared.kinds.Kind.{Kind}
@@ -47,42 +49,44 @@ use Rattle.rv64_isa.specs.Rows.{read}
 use Rattle.variable_words.proofs.Public.{well_formed_placed}
 use Rattle.flow_graph.specs.HeldKeys as keys
 use Rattle.flow_graph.specs.Nodes.{Node}
-use Rattle.flow_graph.specs.Liveness.{NodeAt, IsLive}
+use Rattle.flow_graph.specs.Liveness.{NodeAt}
 use Rattle.flow_graph.specs.Paths.{naming_of}
 use Rattle.flow_graph.proofs.Public.{all_at}
 use Rattle.known_references.proofs.Public.{found_or}
 use Rattle.log_states.specs.Logs.{HasLog, IsKeepable, IsWord, log_word}
 use Rattle.log_states.specs.BanksRead.{HasKept}
-use Rattle.log_states.proofs.Public.{banks_read, contains_cases, contains_none, kept_are_keepable}
+use Rattle.log_states.proofs.Public.{banks_read, contains_cases, contains_none}
 use Rattle.rv64_codegen.proofs.Public.{numbers_plain}
-use Rattle.thread_code.specs.Plans.{Plan, Thread, locks_before, locks_held, locks_held_from, set_before}
-use Rattle.recovered_threads.specs.RecordDescriptions.{Code, ResumesAt}
+use Rattle.thread_code.specs.Plans.{Plan, Thread, home_at, locks_before, locks_held, locks_held_from, set_before}
+use Rattle.thread_code.specs.RegistersAtNodes.{frame_loads}
+use Rattle.recovered_threads.specs.RecordDescriptions.{Code, CountsOn, NodePlace, ResumesAt}
 use Rattle.recovered_threads.specs.RecordDescriptions as telling
 use Rattle.crash_simulation.specs.Systems.{System, IsSystem, flat_of}
 use Rattle.flat_compile.specs.declared.resumes.LiveLocal.{LiveLocal}
 use Rattle.flat_compile.specs.declared.resumes.Resume.{Resume}
-use Rattle.flat_compile.specs.ResumePlaces.{Spot, IsSpot, address_in, goes_on_at, IsLiveLocal, IsResumeOf, AreResumes, knowns_before, refers_in, resumes_at}
+use Rattle.flat_compile.specs.ResumePlaces.{Spot, IsSpot, address_in, goes_on_at, place_at, place_in, IsLiveLocal, IsResumeOf, AreResumes}
+use Rattle.flat_compile.specs.ResumePlaces.{knowns_before, refers_in, resumes_at}
+use Rattle.flat_compile.proofs.Public.{coloured, few_colours, home_is}
 use Rattle.flat_compile.specs.ResumePlaces as places
-use Rattle.image_checks.specs.Logs.{AreOnce, HoldsLock, KeepsAs, Logs, local_by, locks_by, logged, logs_of, names_at, slot_in}
+use Rattle.image_checks.specs.Logs.{AreOnce, HoldsLock, KeepsAs, Logs, home_in, home_word, register_in, local_by, locks_by, logged, logs_of, names_at, slot_in}
 use Rattle.image_checks.specs.Checks.{IsElementOf, IsForm, IsLocalWord, IsReferenceWord, IsResumableLog, IsUnnull, IsUnshared}
 use Rattle.image_checks.specs.Checks.{kinds_of_thread, names_of_thread, resume_at}
 use Rattle.image_checks.specs.Checks as checks
 use Rattle.image_checks.specs.ResumeSlots.{HaveKinds}
 use Rattle.image_checks.specs.VariableReferences.{AreReferences}
-use Rattle.image_checks.proofs.Public.{found_local, local_at, locals_held, locks_are, locks_each, locks_there, named_held, point_is, recorded_there}
-use Rattle.log_schemes.proofs.Public.{register_is}
+use Rattle.image_checks.proofs.Public.{above_frame, found_local, local_at, locals_held, locks_are, locks_each, locks_there, named_held, point_is}
+use Rattle.image_checks.proofs.Public.{recorded_there}
 use Rattle.crash_images.specs.Contents.{log_of}
 use Rattle.image_runs.specs.Shapes.{GoesOnAt, HasThreadShape}
 use Rattle.image_runs.specs.Shapes as shapes
 use Rattle.image_runs.specs.Laws.{AcceptedHaveShape}
 use Rattle.image_checks.proofs.Public.{refers_are, zip_there}
 use Rattle.image_checks.proofs.Public.{few_elements, reference_of_word, some_of_word}
-use Rattle.image_runs.proofs.ResumedLocals.{local_keepable}
+use Rattle.image_runs.proofs.ResumedLocals.{address_keepable, colour_keepable, value_keepable}
 use Rattle.image_runs.proofs.SpreadReferences.{spread_references}
 use Rattle.image_runs.proofs.SpreadWords as spread
 use Rattle.expr_code.specs.declared.home.Home.{Home}
-use Rattle.expr_code.specs.declared.home.Home.TheVariants.{InRegister}
-use Rattle.expr_code.specs.EvaluationCode.{home_of, HomeCarries}
+use Rattle.expr_code.specs.EvaluationCode.{HomeCarries, home_of}
 
 -- ---- What a point says
 
@@ -118,7 +122,8 @@ found_at (x ∷ rs) address r h = elim (cases_Bool (x.address == address)) [
       (suc more.0, more.1, more.2)
 ]
 
-resumes_by : (p : Plan) (code : Code p) (spot : Spot) → IsSpot p code.thread spot → ResumesAt p code (goes_on_at spot) (address_in code.is.places spot)
+resumes_by : (p : Plan) (code : Code p) (spot : Spot) → IsSpot p code.thread spot →
+    ResumesAt p code (goes_on_at spot) (place_in spot) (address_in code.is.places spot)
 resumes_by p code _ (places.at_chosen node own chosen) = telling.at_chosen chosen
 resumes_by p code _ (places.past_lock node lock next is own there locks) = telling.past_lock node lock is own there locks
 resumes_by p code _ (places.past_unlock node lock next is own there unlocks holds) = telling.past_unlock node lock is own there unlocks holds
@@ -204,6 +209,10 @@ module _ (y : System) (words : List Word) (ws : List ℕ)
       abbrev slot : ℕ → ℕ
       slot = checks.bank_slot x logs n bank
 
+      -- what stands in homes
+      abbrev home : ℕ → ℕ
+      home = checks.bank_home x logs n bank
+
       abbrev live : List LiveLocal
       live = r.live.items
 
@@ -213,10 +222,17 @@ module _ (y : System) (words : List Word) (ws : List ℕ)
       slot_there : (at_slot : ℕ) → recorded log words n at_slot ≡ slot at_slot
       slot_there at_slot = recorded_there log words ws there n at_slot ∙ ap (λ (b : ℕ). slot_in logs n b at_slot) (sym w.bank_is)
 
-      register_there : (register : ℕ) → IsKeepable log register → read (shapes.resumed y.plan code words) register ≡ slot register
-      register_there register k =
-          (banks_read log).registers words n register k
-          ∙ (ap (λ (at_slot : ℕ). recorded log words n at_slot) (sym (register_is log register)) ∙ slot_there register)
+      register_there : (register : ℕ) → IsKeepable log register → read (shapes.resumed y.plan code words) register ≡ register_in logs n bank register
+      register_there register k = (banks_read log).registers words n register k ∙ slot_there (register_slot log register)
+
+      abbrev place : NodePlace
+      place = place_at r.at_core
+
+      abbrev Counts : (local : ℕ) → Type 0
+      Counts local = CountsOn y.plan t r.node place local
+
+      abbrev IsLiveHere : LiveLocal → Type 0
+      IsLiveHere l = IsLiveLocal y.plan t r.node place l
 
       -- ---- Locals
 
@@ -229,34 +245,41 @@ module _ (y : System) (words : List Word) (ws : List ℕ)
           ap (λ (ks : List Kind). slice_get ks l.local) kinds_are ∙ ((of.found.live l).0 (Contains-get_or live k d within)).kind_is
 
       held : AllZip Holds t.kinds numbers
-      held = subst (λ (ks : List Kind). AllZip Holds ks numbers) kinds_are (locals_held slot live (kinds_of_thread x n) have_kinds)
+      held = subst (λ (ks : List Kind). AllZip Holds ks numbers) kinds_are (locals_held home live (kinds_of_thread x n) have_kinds)
 
       -- what the table tells of a live local, and the bank has of it
       record IsTold (local : ℕ) (k : Kind) (refers : Option ℕ) : Type 0 where
         it : LiveLocal
-        is : IsLiveLocal y.plan t r.node it
+        is : IsLiveHere it
         local_is : it.local ≡ local
         kind_is : it.kind ≡ k
         refers_is : it.refers ≡ refers
-        has : IsLocalWord x.variables it (slot it.register)
-        number_is : slice_index_or numbers local (pos 0) ≡ reduced k (pos (slot it.register))
+        has : IsLocalWord x.variables it (home it.colour)
+        number_is : slice_index_or numbers local (pos 0) ≡ reduced k (pos (home it.colour))
 
-      told_by : (local : ℕ) (k : Kind) (refers : Option ℕ) → slice_get t.kinds local ≡ Some k → slice_get (refers_in y.plan t) local ≡ Some refers →
-          IsLive y.plan.graph local r.node → (home : Home) → home_of t.locals local ≡ home → IsTold local k refers
-      told_by local k refers kind refer is_live (InRegister register) stands =
+      told : (local : ℕ) (k : Kind) (refers : Option ℕ) → slice_get t.kinds local ≡ Some k → slice_get (refers_in y.plan t) local ≡ Some refers →
+          Counts local → IsTold local k refers
+      told local k refers kind refer counted =
+          let colour = coloured y.plan s.plan t code.of local k kind in
           let knowns = knowns_before y.plan t r.node in
           let l : LiveLocal =
-          record { register = register; local = local; kind = k; refers = refers; known = is_some refers && is_among knowns local } in
+          record { colour = colour.0; local = local; kind = k; refers = refers; known = is_some refers && is_among knowns local } in
           let there : Contains live l =
-          (of.found.live l).1 (record { kind_is = kind; refers_is = refer; known_is = refl; live = is_live; home_is = stands }) in
+          (of.found.live l).1 (record {
+            kind_is = kind;
+            refers_is = refer;
+            known_is = refl;
+            counted = counted;
+            coloured = colour.1;
+          }) in
           let found = found_in_live live local l there refl in
-          let both = found_local (λ (z : LiveLocal). IsLiveLocal y.plan t r.node z × IsLocalWord x.variables z (slot z.register)) live local found.0
+          let both = found_local (λ (z : LiveLocal). IsLiveHere z × IsLocalWord x.variables z (home z.colour)) live local found.0
           (λ i d within. (
             (of.found.live (get_or live i d)).0 (Contains-get_or live i d within),
             right.locals i d within,
           )) found.1 in
           let it : LiveLocal = found.0 in
-          let is : IsLiveLocal y.plan t r.node it = both.0.0 in
+          let is : IsLiveHere it = both.0.0 in
           let local_is : it.local ≡ local = both.1 in
           let kind_is : it.kind ≡ k = same_Some it.kind k (sym is.kind_is ∙ (ap (slice_get t.kinds) local_is ∙ kind)) in
           let inside : local < length (kinds_of_thread x n) =
@@ -269,13 +292,9 @@ module _ (y : System) (words : List Word) (ws : List ℕ)
             refers_is = same_Some it.refers refers (sym is.refers_is ∙ (ap (slice_get (refers_in y.plan t)) local_is ∙ refer));
             has = both.0.1;
             number_is =
-                local_at slot live (length (kinds_of_thread x n)) local inside
-                ∙ (ap (local_by slot) found.1 ∙ ap (λ (j : Kind). reduced j (pos (slot it.register))) kind_is);
+                local_at home live (length (kinds_of_thread x n)) local inside
+                ∙ (ap (local_by home) found.1 ∙ ap (λ (j : Kind). reduced j (pos (home it.colour))) kind_is);
           }
-
-      told : (local : ℕ) (k : Kind) (refers : Option ℕ) → slice_get t.kinds local ≡ Some k → slice_get (refers_in y.plan t) local ≡ Some refers →
-          IsLive y.plan.graph local r.node → IsTold local k refers
-      told local k refers kind refer is_live = told_by local k refers kind refer is_live (home_of t.locals local) refl
 
       form_locals : AllZip IsLocalReferring code.of.text.locals code.of.text.refers
       form_locals = (all_at (IsFlatThreadReferring x) x.threads n code.of.text s.plan.formed.referring.threads code.of.of_text).locals
@@ -292,61 +311,86 @@ module _ (y : System) (words : List Word) (ws : List ℕ)
           (ap (λ (rs : List (Option ℕ)). slice_get rs local) (sym (refers_are y.plan t code.of)) ∙ refer) in
           ap (λ (ks : List Kind). slice_get ks local) code.of.kinds ∙ (own.found ∙ ap (λ (j : Kind). Some j) own.related)
 
-      carried_by : (k : Kind) (register word : ℕ) (registers : List ℕ) → read registers register ≡ word → IsForm k word →
-          HomeCarries registers (InRegister register) (typed k (reduced k (pos word)))
-      carried_by k register word registers same form =
-          let back : reduced k (pos word) ≡ form.number = ap (λ (v : ℕ). reduced k (pos v)) form.is ∙ reduced-register k form.number form.held in
-          record { held = Holds-reduced k (pos word); form = same ∙ (form.is ∙ ap (register_of k) (sym back)) }
+      module _ (k : Kind) (word : ℕ) (form : IsForm k word) where
+        back : word ≡ register_of k (reduced k (pos word))
+        back =
+            let same : reduced k (pos word) ≡ form.number = ap (λ (v : ℕ). reduced k (pos v)) form.is ∙ reduced-register k form.number form.held in
+            form.is ∙ ap (register_of k) (sym same)
 
-      local_there : (local : ℕ) (k : Kind) → slice_get t.kinds local ≡ Some k → IsLive y.plan.graph local r.node →
-          HomeCarries (shapes.resumed y.plan code words) (home_of t.locals local) (typed k (slice_index_or numbers local (pos 0)))
-      local_there local k kind is_live =
+      abbrev loads : (address bytes : ℕ) → Option ℕ
+      loads = frame_loads (shapes.resumed_view y.plan code words)
+
+      -- in a home is the number to which its word is reduced
+      carried_in : (ls : Locals) → locals_of log ≡ ls → (k : Kind) (colour : ℕ) → colour < 18 → IsForm k (home_word ls logs n bank colour) →
+          HomeCarries loads (shapes.resumed y.plan code words) (home_at ls log n colour) (typed k (reduced k (pos (home_word ls logs n bank colour))))
+      carried_in Registers is k colour few form =
+          let register = slice_index LOCALS colour in
+          let word : ℕ = register_in logs n bank register in
+          record { held = Holds-reduced k (pos word); form = register_there register (colour_keepable log is colour few) ∙ back k word form }
+      carried_in Frame is k colour few form =
+          let word : ℕ = logged ws (frame_at log n colour) in
+          record {
+            held = Holds-reduced k (pos word);
+            answer = ap (λ (v : ℕ). Some v) (there (frame_at log n colour) (above_frame log n colour) ∙ back k word form);
+          }
+
+      home_is_word : (colour : ℕ) → home colour ≡ home_word (locals_of log) logs n bank colour
+      unfolding home_in
+      home_is_word colour = refl
+
+      local_there : (local : ℕ) (k : Kind) → slice_get t.kinds local ≡ Some k → Counts local →
+          HomeCarries loads (shapes.resumed y.plan code words) (home_of t.locals local) (typed k (slice_index_or numbers local (pos 0)))
+      local_there local k kind counted =
           let refer = refers_there local k kind in
-          let l = told local k refer.0 kind refer.1 is_live in
-          let register : ℕ = l.it.register in
-          let home : home_of t.locals local ≡ InRegister register = ap (home_of t.locals) (sym l.local_is) ∙ l.is.home_is in
-          let form : IsForm k (slot register) = subst (λ (j : Kind). IsForm j (slot register)) l.kind_is l.has.form in
-          let carried = carried_by k register (slot register) (shapes.resumed y.plan code words)
-          (register_there register (local_keepable y.plan s.plan t code.of local k register kind home)) form in
-          subst (λ (h : Home). HomeCarries (shapes.resumed y.plan code words) h (typed k (slice_index_or numbers local (pos 0)))) (sym home)
-          (subst (λ (z : ℤ). HomeCarries (shapes.resumed y.plan code words) (InRegister register) (typed k z)) (sym l.number_is) carried)
+          let l = told local k refer.0 kind refer.1 counted in
+          let colour : ℕ = l.it.colour in
+          let own : home_of t.locals local ≡ home_at (locals_of log) log n colour =
+          ap (home_of t.locals) (sym l.local_is) ∙ home_is y.plan s.plan t code.of l.it.local colour l.is.coloured in
+          let form : IsForm k (home_word (locals_of log) logs n bank colour) =
+          subst (IsForm k) (home_is_word colour) (subst (λ (j : Kind). IsForm j (home colour)) l.kind_is l.has.form) in
+          let number : slice_index_or numbers local (pos 0) ≡ reduced k (pos (home_word (locals_of log) logs n bank colour)) =
+          l.number_is ∙ ap (λ (v : ℕ). reduced k (pos v)) (home_is_word colour) in
+          let few : colour < 18 = few_colours y.plan s.plan t code.of l.it.local colour l.is.coloured in
+          subst (λ (h : Home). HomeCarries loads (shapes.resumed y.plan code words) h (typed k (slice_index_or numbers local (pos 0)))) (sym own)
+          (subst (λ (z : ℤ). HomeCarries loads (shapes.resumed y.plan code words) (home_at (locals_of log) log n colour) (typed k z)) (sym number)
+          (carried_in (locals_of log) refl k colour few form))
 
       -- ---- References
 
       record IsReferenceTold (local array : ℕ) : Type 0 where
         own : IsTold local UnsignedLong (Some array)
-        low : slot own.it.register ≤ elements_of x.variables array
+        low : home own.it.colour ≤ elements_of x.variables array
         most : elements_of x.variables array ≤ MOST_ELEMENTS
 
-      reference_told : (local array : ℕ) → slice_get (refers_in y.plan t) local ≡ Some (Some array) → IsLive y.plan.graph local r.node →
+      reference_told : (local array : ℕ) → slice_get (refers_in y.plan t) local ≡ Some (Some array) → Counts local →
           IsReferenceTold local array
-      reference_told local array refer is_live =
-          let l = told local UnsignedLong (Some array) (kind_there local array refer) refer is_live in
+      reference_told local array refer counted =
+          let l = told local UnsignedLong (Some array) (kind_there local array refer) refer counted in
           record {
             own = l;
-            low = subst (λ (o : Option ℕ). IsReferenceWord x.variables o (slot l.it.register)) l.refers_is l.has.reference;
+            low = subst (λ (o : Option ℕ). IsReferenceWord x.variables o (home l.it.colour)) l.refers_is l.has.reference;
             most = few_elements x.mutexes x.variables array s.plan.formed.shared.variables;
           }
 
-      refer_there : (local array : ℕ) → slice_get (refers_in y.plan t) local ≡ Some (Some array) → IsLive y.plan.graph local r.node →
+      refer_there : (local array : ℕ) → slice_get (refers_in y.plan t) local ≡ Some (Some array) → Counts local →
           IsNullOrReference (elements_of x.variables array) (slice_index_or numbers local (pos 0))
-      refer_there local array refer is_live =
-          let l = reference_told local array refer is_live in
+      refer_there local array refer counted =
+          let l = reference_told local array refer counted in
           subst (IsNullOrReference (elements_of x.variables array)) (sym l.own.number_is)
-          (reference_of_word (elements_of x.variables array) (slot l.own.it.register) l.most l.low)
+          (reference_of_word (elements_of x.variables array) (home l.own.it.colour) l.most l.low)
 
-      unnull_there : (local array : ℕ) → slice_get (refers_in y.plan t) local ≡ Some (Some array) → IsLive y.plan.graph local r.node →
+      unnull_there : (local array : ℕ) → slice_get (refers_in y.plan t) local ≡ Some (Some array) → Counts local →
           is_among (knowns_before y.plan t r.node) local ≡ true → slice_index_or numbers local (pos 0) ≢ pos 0
-      unnull_there local array refer is_live among =
-          let l = reference_told local array refer is_live in
+      unnull_there local array refer counted among =
+          let l = reference_told local array refer counted in
           let knowns = knowns_before y.plan t r.node in
           let known : l.own.it.known ≡ true =
           l.own.is.known_is
           ∙ (ap (λ (o : Option ℕ). is_some o && is_among knowns l.own.it.local) l.own.refers_is ∙ (ap (is_among knowns) l.own.local_is ∙ among)) in
-          let some : slot l.own.it.register ≢ 0 = subst (λ (b : Bool). IsUnnull b (slot l.own.it.register)) known l.own.has.unnull in
+          let some : home l.own.it.colour ≢ 0 = subst (λ (b : Bool). IsUnnull b (home l.own.it.colour)) known l.own.has.unnull in
           let low = l.low in
           let most = l.most in
-          λ zeroth. some_of_word (slot l.own.it.register) (omega (arith, low, most)) some (sym l.own.number_is ∙ zeroth)
+          λ zeroth. some_of_word (home l.own.it.colour) (omega (arith, low, most)) some (sym l.own.number_is ∙ zeroth)
 
       -- ---- Locks
 
@@ -356,7 +400,7 @@ module _ (y : System) (words : List Word) (ws : List ℕ)
       plain_there : keeping_of log ≡ Masked → r.held.items ≡ own_locks
       plain_there masks = of.found.held_is ∙ numbers_plain y.plan s.plan t code.of masks numbers r.node of.found.own
 
-      locks_told : locks_by slot (names_of_thread x n) (length (kinds_of_thread x n)) r ≡ own_locks
+      locks_told : locks_by home (names_of_thread x n) (length (kinds_of_thread x n)) r ≡ own_locks
       locks_told =
           ap (λ (held : List ℕ). map (lock_number numbers) (names_at (names_of_thread x n) held)) of.found.held_is
           ∙ (ap (λ (ns : List LockName). map (lock_number numbers) ns) (named_held (names_of_thread x n) set)
@@ -365,9 +409,9 @@ module _ (y : System) (words : List Word) (ws : List ℕ)
       locks : HasKept log words n own_locks
       locks one c =
           slot_there one.0
-          ∙ locks_each slot (names_of_thread x n) (length (kinds_of_thread x n)) r own_locks log right.locks plain_there locks_told one c
+          ∙ locks_each slot home (names_of_thread x n) (length (kinds_of_thread x n)) r own_locks log right.locks plain_there locks_told one c
 
-      once_as : (way : Keeping) → keeping_of log ≡ way → KeepsAs way log slot (names_of_thread x n) (length (kinds_of_thread x n)) r → AreOnce own_locks
+      once_as : (way : Keeping) → keeping_of log ≡ way → KeepsAs way log slot home (names_of_thread x n) (length (kinds_of_thread x n)) r → AreOnce own_locks
       once_as Masked is keeps = subst AreOnce (sym of.found.held_is ∙ plain_there is) (held_once set)
       once_as Listed is keeps = subst AreOnce locks_told keeps.1
 
@@ -379,24 +423,29 @@ module _ (y : System) (words : List Word) (ws : List ℕ)
 
         address_there : IsElementOf x.variables (naming_of x code.of.text numbers) location (read (shapes.resumed y.plan code words) pending_address)
         address_there =
-            let has : IsElementOf x.variables (keys.names_in x.variables (names_of_thread x n) numbers) location (slot 28) =
-            subst (λ (o : Option Location). checks.HasAddress x logs n bank live o) pending_is right.address in
+            let has : IsElementOf x.variables (keys.names_in x.variables (names_of_thread x n) numbers) location (register_in logs n bank pending_address) =
+            subst (λ (o : Option Location). checks.IsElementNext x logs n bank live o (register_in logs n bank pending_address)) pending_is
+            right.write.address.element in
             subst (λ (word : ℕ). IsElementOf x.variables (naming_of x code.of.text numbers) location word)
-            (sym (register_there pending_address (kept_are_keepable log pending_address refl)))
-            (subst (λ (ns : List LockName). IsElementOf x.variables (keys.names_in x.variables ns numbers) location (slot 28)) names_there has)
+            (sym (register_there pending_address (address_keepable log)))
+            (subst (λ (ns : List LockName). IsElementOf x.variables (keys.names_in x.variables ns numbers) location (register_in logs n bank pending_address))
+            names_there has)
 
         value_there : IsReferenceWord x.variables (variable_refers x.variables location.variable) (read (shapes.resumed y.plan code words) pending_value)
         value_there =
-            let has : IsReferenceWord x.variables (variable_refers x.variables location.variable) (slot 29) =
-            subst (λ (o : Option Location). checks.HasValue x logs n bank o) pending_is right.value in
+            let has : IsReferenceWord x.variables (variable_refers x.variables location.variable) (register_in logs n bank pending_value) =
+            subst (λ (o : Option Location). checks.IsElementValue x logs n bank o (register_in logs n bank pending_value)) pending_is
+            right.write.value.element in
             subst (IsReferenceWord x.variables (variable_refers x.variables location.variable))
-            (sym (register_there pending_value (kept_are_keepable log pending_value refl))) has
+            (sym (register_there pending_value (value_keepable log))) has
 
-      goes_on : GoesOnAt y.plan code words r.node
+      goes_on : GoesOnAt y.plan code words r.node place
       goes_on = record {
         own = of.found.own;
-        resumes = subst (λ (a : ℕ). ResumesAt y.plan code r.node a) (of.at ∙ (at ∙ w.address_is))
-            (subst (λ (m : ℕ). ResumesAt y.plan code m (address_in code.is.places of.spot)) of.goes_on (resumes_by y.plan code of.spot of.is));
+        resumes = subst (λ (a : ℕ). ResumesAt y.plan code r.node place a) (of.at ∙ (at ∙ w.address_is))
+            (subst (λ (q : NodePlace). ResumesAt y.plan code r.node q (address_in code.is.places of.spot)) of.stands
+            (subst (λ (m : ℕ). ResumesAt y.plan code m (place_in of.spot) (address_in code.is.places of.spot)) of.goes_on
+            (resumes_by y.plan code of.spot of.is)));
         numbers = numbers;
         held = held;
         locals = local_there;
@@ -414,7 +463,7 @@ module _ (y : System) (words : List Word) (ws : List ℕ)
     thread_shape rs are (checks.resumed address bank r point found right) =
         let w = names (durable_point log words n) address bank (sym (point_is log words ws there n) ∙ point) in
         let e = found_at rs address r found in
-        shapes.resumes r.node w.some (goes_on address bank r w (are.each e.0 r e.1) e.2 right)
+        shapes.resumes r.node (place_at r.at_core) w.some (goes_on address bank r w (are.each e.0 r e.1) e.2 right)
 
 -- ---- All of it
 

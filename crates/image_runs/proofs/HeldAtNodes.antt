@@ -7,6 +7,8 @@ use Rattle.std.proofs.lemmas.Bool.{true≢false}
 use Rattle.std.proofs.lemmas.List.{get_or-set_same}
 use Rattle.std.proofs.lemmas.Option.{same_Some, slice_get_within, get_or_from_slice_get}
 use Rattle.ido_base.specs.Locks.{has_lock}
+use Rattle.log_schemes.specs.declared.locals.Locals.TheVariants.{Registers}
+use Rattle.log_schemes.specs.Schemes.{locals_of}
 use Rattle.c_tree.specs.Exprs as e
 use Rattle.c_tree.specs.Flats as f
 use Rattle.c_tree.specs.LockNames.{Held, holds, none_held, lock_names, number_in}
@@ -30,12 +32,13 @@ use Rattle.region_attempts.specs.KnownReferences.{known_at}
 use Rattle.region_cutter.specs.LocksAtBoundaries.{ChosenAreLocked, StoresLocked}
 use Rattle.thread_code.specs.Plans.{Plan, Thread, IsThread, IsPlan, IsNodeOf, held_names_before, locks_held, names_in, set_before}
 use Rattle.thread_code.proofs.Public.{has_held, names_are, nothing_held}
-use Rattle.recovered_threads.specs.RecordDescriptions.{Code, ResumesAt, at_chosen, past_lock, past_unlock}
+use Rattle.recovered_threads.specs.RecordDescriptions.{Code, NodePlace, ResumesAt, at_chosen, past_lock, past_unlock}
 use Rattle.recovered_threads.proofs.Public.{left_at, standing_at}
 use Rattle.flat_compile.proofs.Public.{node_there}
 use Rattle.image_runs.proofs.LeftKnowns.{IsLeftBy, StandsBy, are_known}
 use Rattle.image_runs.proofs.LeftReferences.{are_right}
 use Rattle.image_runs.proofs.LeftStatements.{are_left}
+use Rattle.image_runs.proofs.ResumedLocals.{at_writes}
 use Rattle.image_checks.proofs.Public.{part_is, zip_there}
 
 -- ---- At a node
@@ -118,11 +121,12 @@ module _ (p : Plan) (plan : IsPlan p) (t : Thread) (of : IsThread p t) where
         subst (λ (known : List ℕ). IsLeftBy known stands.0.left)
         (sym (get_or_from_slice_get (thread_knowns of.text) step known_there.0 [] known_there.1)) known_there.2
 
-    -- before a store at which a boundary is chosen the lock that guards its variable is held
-    pub locked_here : ChosenAreLocked → IsChosen p.graph p.boundaries node → StoresLocked p.flat t.number node (set_before p t node)
-    locked_here locked chosen =
+    -- where locals stand in registers, before a store at which a boundary is chosen the lock that guards its variable is held
+    pub locked_here : locals_of p.log ≡ Registers → ChosenAreLocked → IsChosen p.graph p.boundaries node →
+        StoresLocked p.flat t.number node (set_before p t node)
+    locked_here registers locked chosen =
         locked p.flat p.held p.boundaries t.number step node (set_before p t node) plan.held
-        (subst (λ (g : Graph). AreAtWrites g p.boundaries) plan.lowered plan.at_writes)
+        (subst (λ (g : Graph). AreAtWrites g p.boundaries) plan.lowered (at_writes p registers plan))
         (subst (λ (g : Graph). IsChosen g p.boundaries node) plan.lowered chosen)
         (record {
           part = t.part;
@@ -166,7 +170,7 @@ module _ (p : Plan) (plan : IsPlan p) (t : Thread) (of : IsThread p t) where
 some_locks : (held : Held) (lock : ℕ) → holds held lock ≡ true → locks_held held ≢ []
 some_locks held lock h none = true≢false (sym h ∙ (sym (has_held held lock) ∙ ap (λ (ls : List ℕ). has_lock ls lock) none))
 
-module _ (locked : ChosenAreLocked) (p : Plan) (plan : IsPlan p) (code : Code p) where
+module _ (locked : ChosenAreLocked) (p : Plan) (registers : locals_of p.log ≡ Registers) (plan : IsPlan p) (code : Code p) where
   abbrev t : Thread
   t = code.thread
 
@@ -176,11 +180,12 @@ module _ (locked : ChosenAreLocked) (p : Plan) (plan : IsPlan p) (code : Code p)
       (long p plan t code.of node own ∙ ap (λ (ns : List e.LockName). length ns) (sym (names_are p t code.of))) none)
 
   -- something is held
-  pub resumed_hold : (node address : ℕ) → IsNodeOf code.thread node → ResumesAt p code node address → held_names_before p code.thread node ≢ []
-  resumed_hold node address own (at_chosen chosen) =
-      let s = locked_here p plan t code.of node own locked chosen in
+  pub resumed_hold : (node : ℕ) (place : NodePlace) (address : ℕ) → IsNodeOf code.thread node → ResumesAt p code node place address →
+      held_names_before p code.thread node ≢ []
+  resumed_hold node _ address own (at_chosen chosen) =
+      let s = locked_here p plan t code.of node own registers locked chosen in
       some_names node own (some_locks (set_before p t node) (number_in (lock_names p.flat s.text) (guard_name p.flat.variables s.used)) s.locked)
-  resumed_hold node address own (past_lock from lock is own_from at locks) =
+  resumed_hold node _ address own (past_lock from lock is own_from at locks) =
       some_names node own (some_locks (set_before p t node) (number_in (lock_names p.flat code.of.text) lock)
       (held_after_lock p plan t code.of from lock node is own_from own at locks))
-  resumed_hold node address own (past_unlock from lock is own_from at unlocks some) = some
+  resumed_hold node _ address own (past_unlock from lock is own_from at unlocks some) = some

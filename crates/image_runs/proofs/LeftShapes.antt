@@ -1,19 +1,20 @@
 -- What a crash leaves of a run has the shape.
 use Rattle.std.proofs.Common.{◌≡◌, ◌≢◌, refl, ℕ, ◌<◌, List, [], length, map, ap, sym, ◌∙◌, subst, arith, Option, Some, None, true}
-use Rattle.std.specs.Prelude.{slice_get, Contains, ℤ, slice_index_or, pos, is_some}
+use Rattle.std.specs.Prelude.{slice_get, Contains, ℤ, slice_index_or, pos, is_some, ◌==◌}
 use Rattle.std.specs.List.{AllZip}
+use Rattle.std.proofs.lemmas.Bool.{cond-false, ne_eqb}
 use Rattle.std.proofs.lemmas.List.{length-map}
 use Rattle.std.proofs.lemmas.Option.{none-some, same_Some, slice_get_within}
 use Rattle.log_schemes.specs.declared.log.Log.{Log}
 use Rattle.machine_events.specs.declared.event.Event.TheVariants.{Crash}
 use Rattle.ido_base.specs.declared.location.Location.{Location}
 use Rattle.ido_base.specs.Layout.{variable_at}
-use Rattle.log_schemes.specs.Layout.{word_count}
+use Rattle.log_schemes.specs.Layout.{frame_at, word_count}
 use Rattle.ido_base.specs.Locks.{has_lock}
 use Rattle.ido_base.specs.Words.{Word, word_of, durable_value}
 use Rattle.ido_ints.specs.declared.kinds.Kind.{Kind}
 use Rattle.ido_ints.specs.Kinds.{Holds}
-use Rattle.ido_ints.specs.TypedNumbers.{Typed, typed}
+use Rattle.ido_ints.specs.TypedNumbers.{typed}
 use Rattle.c_tree.specs.Exprs.{LockName}
 use Rattle.c_tree.specs.Flats as f
 use Rattle.c_tree.specs.LockNames.{lock_names}
@@ -30,9 +31,9 @@ use Rattle.source_machine.specs.Discipline.{HoldsNames, KeepsLeft}
 use Rattle.source_machine.proofs.Public.{held_is_given}
 use Rattle.memory_layout.specs.Roles.{pending_address, pending_value}
 use Rattle.rv64_isa.specs.Rows.{read}
-use Rattle.machine_model.specs.Machine.{World, after_event, happens, after_crash_of, resume_of, record_of}
+use Rattle.machine_model.specs.Machine.{World, after_event, durable_at, happens, after_crash_of, resume_of, record_of}
 use Rattle.machine_model.proofs.Public.{log_stays}
-use Rattle.flow_graph.specs.Actions.{FlowState, seen_by}
+use Rattle.flow_graph.specs.Actions.{FlowState, Seen, seen_by}
 use Rattle.flow_graph.specs.IdempotentCuts.{stores}
 use Rattle.flow_graph.specs.Liveness.{NodeAt, IsLive}
 use Rattle.flow_graph.specs.Lockstep.{GraphThreadMatches, Standing}
@@ -41,15 +42,17 @@ use Rattle.flow_graph.specs.Nodes.{Action, Eval, Store, Test, Lock, Unlock, End,
 use Rattle.flow_graph.specs.Paths.{LiesInWritten, naming_of, stored_element}
 use Rattle.flow_graph.proofs.Public.{Good, ShapedAs, found_in, node_shaped, nodes_at}
 use Rattle.log_states.specs.LogInvariant.{LogInv}
-use Rattle.log_states.specs.Logs.{Record, IsRecord, IsRecorded, HasLog, nothing_recorded}
+use Rattle.log_states.specs.Logs.{Record, IsRecord, IsRecorded, HasLog, frame_in, framed_of, nothing_recorded}
 use Rattle.log_states.specs.BanksRead.{HasKept}
 use Rattle.log_states.specs.Laws.{ResumesRecord}
 use Rattle.log_states.specs.Machines.{config_of}
-use Rattle.log_states.proofs.Public.{crashes_standing, ends, log_facts}
-use Rattle.thread_code.specs.Plans.{Thread, locks_before, of_address, of_local, of_value, set_before}
-use Rattle.thread_code.specs.RegistersAtNodes.{HasPending, IsPendingIn}
-use Rattle.recovered_threads.specs.RecordDescriptions.{Code, Describes, IsInside, IsOrderly, ResumesAt, between, inside, locks_of}
-use Rattle.recovered_threads.proofs.Public.{records_are_apart}
+use Rattle.log_states.proofs.Public.{crashes_standing, durable_is, ends, log_facts}
+use Rattle.thread_code.specs.Plans.{Thread, IsKept, IsLogged, locks_before, of_address, of_entry, of_local, of_value, set_before}
+use Rattle.thread_code.specs.RegistersAtNodes.{HasPending, IsAtHome, IsCountedOn, IsLiveBeside, IsPendingIn, IsReady, MayAssign, by_assignment, by_entry}
+use Rattle.thread_code.specs.RegistersAtNodes.{frame_loads, to_assign, to_enter}
+use Rattle.recovered_threads.specs.RecordDescriptions.{Code, CountsOn, Describes, IsInside, IsOrderly, MayGoOn, NodePlace, ResumesAt, between, inside}
+use Rattle.recovered_threads.specs.RecordDescriptions.{locks_of, registers_kept, the_core, the_entry}
+use Rattle.recovered_threads.proofs.Public.{records_are_apart, stands_in_word}
 use Rattle.region_attempts.specs.KnownReferences.{AreUnnull, known_at}
 use Rattle.known_references.proofs.Public.{kept_unnull}
 use Rattle.crash_simulation.specs.AbstractRuns.{kept_of}
@@ -62,17 +65,18 @@ use Rattle.compiler_correctness.specs.Translations.{world}
 use Rattle.flat_compile.specs.ResumePlaces.{knowns_before, refers_in}
 use Rattle.image_checks.specs.Logs.{AreOnce}
 use Rattle.image_checks.specs.Checks.{IsElementOf, IsReferenceWord}
-use Rattle.image_checks.proofs.Public.{AreApart, left_refer, locks_are, once_by}
+use Rattle.image_checks.proofs.Public.{AreApart, left_refer, locks_are, once_by, one_assigned, word_of as frame_word_of}
 use Rattle.image_runs.specs.Shapes.{GoesOnAt, HasThreadShape, HasShape}
 use Rattle.image_runs.specs.Shapes as shapes
 use Rattle.image_runs.specs.Laws.{CrashesLeaveShape}
 use Rattle.image_checks.proofs.Public.{knowns_are, refers_are, zip_there}
+use Rattle.image_runs.proofs.ResumedLocals.{no_register}
 use Rattle.image_runs.proofs.HeldAtNodes.{keeps}
 use Rattle.image_runs.proofs.HeldAtNodes.{stands as stands_at}
 use Rattle.image_checks.proofs.Public.{IsLong, variable_long, word_by_bytes}
 use Rattle.image_checks.proofs.Public.{StoresAs, StoresElements, stores_elements}
 use Rattle.expr_code.specs.declared.home.Home.{Home}
-use Rattle.expr_code.specs.declared.home.Home.TheVariants.{InRegister}
+use Rattle.expr_code.specs.declared.home.Home.TheVariants.{InFrame, InRegister}
 use Rattle.expr_code.specs.EvaluationCode.{home_of, HomeCarries}
 
 module _ (y : System) (s : IsSystem y) (w : World) (stands : Simulates y s w) where
@@ -164,23 +168,87 @@ module _ (y : System) (s : IsSystem y) (w : World) (stands : Simulates y s w) wh
           subst (λ (ks : List Kind). AllZip Holds ks locals) (sym code.of.kinds)
           (subst (λ (ls : List ℤ). AllZip Holds code.of.text.locals ls) (sym match.locals) formed.locals)
 
-      register_there : (register : ℕ) → Contains (code.is.places.live at) register →
-          read (shapes.resumed y.plan code ws) register ≡ read r.registers register
-      register_there register c =
-          resumes_own.registers i.point register (subst (λ (live : List ℕ). Contains live register) (sym i.live) c)
+      abbrev seen : Seen
+      seen = seen_by kept i.graph_thread
+
+      -- it goes on with these registers
+      abbrev May : NodePlace → Type 0
+      May stand = MayGoOn y.plan t at stand seen i.view i.owed r.registers
+
+      register_there : (register : ℕ) → IsKept y.plan t at register → read (shapes.resumed y.plan code ws) register ≡ read r.registers register
+      register_there register is =
+          resumes_own.registers i.point register (subst (λ (live : List ℕ). Contains live register) (sym i.live) (by i.place))
+        where
+          by : (stand : NodePlace) → Contains (registers_kept code.is.places at stand) register
+          by the_entry = (code.is.live at i.own register).1 is
+          by the_core = (code.is.kept at i.own register).1 (of_entry register is)
+
+      -- a word of the frame on which the record counts
+      word_there : (word : ℕ) → Contains r.framed word → durable_at ws (frame_at y.plan.log t.number word) ≡ i.view.frame (frame_at y.plan.log t.number word)
+      word_there word c =
+          let counted : Contains (framed_of r) word =
+          subst (λ (words : List ℕ). Contains words word) (sym (cond-false (r.point == 0) [] r.framed (ne_eqb r.point 0 i.point))) c in
+          durable_is (frame_in y.plan.log ws t.number word) (r.frame word) (resumes_own.frame word counted) ∙ i.frame word c
 
       -- ---- Locals
 
-      carried_there : (home : Home) (v : Typed) → ((register : ℕ) → home ≡ InRegister register → read (shapes.resumed y.plan code ws) register
-          ≡ read r.registers register) → HomeCarries r.registers home v → HomeCarries (shapes.resumed y.plan code ws) home v
-      carried_there (InRegister register) v same carried = record { held = carried.held; form = same register refl ∙ carried.form }
+      -- what stands in its home is its number, at the record's registers, where the log was so
+      at_home : (local : ℕ) (k : Kind) → slice_get t.kinds local ≡ Some k → CountsOn y.plan t at i.place local →
+          IsAtHome y.plan t seen i.view r.registers local k
+      at_home local k kind counted = by i.place i.may counted
+        where
+          beside : (logged : IsLogged y.plan t at) → MayAssign y.plan t at logged.local i.owed seen i.view r.registers →
+              IsLiveBeside y.plan at logged.local local → IsAtHome y.plan t seen i.view r.registers local k
+          beside logged may live =
+              let own = frame_word_of y.plan s.plan t code.of logged.frame local k kind in
+              subst (λ (home : Home). HomeCarries (frame_loads i.view) r.registers home (typed k (slice_index_or locals local (pos 0)))) (sym own.1)
+              (may.locals local own.0 k kind live own.1)
 
-      local_right : (local : ℕ) (k : Kind) → slice_get t.kinds local ≡ Some k → IsLive y.plan.graph local at →
-          HomeCarries (shapes.resumed y.plan code ws) (home_of t.locals local) (typed k (slice_index_or locals local (pos 0)))
-      local_right local k there live =
-          carried_there (home_of t.locals local) (typed k (slice_index_or locals local (pos 0)))
-          (λ register stands_in. register_there register ((code.is.kept at i.own register).1 (of_local local k register there live stands_in)))
-          (i.enters.locals local k there live)
+          at_core : IsReady y.plan t at seen i.view i.owed r.registers → IsCountedOn y.plan t at local → IsAtHome y.plan t seen i.view r.registers local k
+          at_core (to_enter none enters) (by_entry _ free live) = enters.locals local k kind live
+          at_core (to_enter none enters) (by_assignment _ logged live) = absurd (none logged)
+          at_core (to_assign logged may) (by_entry _ none live) = absurd (none logged)
+          at_core (to_assign logged may) (by_assignment _ other live) =
+              let same : other.local ≡ logged.local = one_assigned y.plan s.plan at other.local logged.local other.assigns logged.assigns in
+              beside logged may (subst (λ (k : ℕ). IsLiveBeside y.plan at k local) same live)
+
+          by : (stand : NodePlace) → May stand → CountsOn y.plan t at stand local → IsAtHome y.plan t seen i.view r.registers local k
+          by the_entry enters live = enters.locals local k kind live
+          by the_core ready live = at_core ready.0 live
+
+      -- one in a register is live
+      alive : (local : ℕ) (k : Kind) (register : ℕ) → slice_get t.kinds local ≡ Some k → home_of t.locals local ≡ InRegister register →
+          CountsOn y.plan t at i.place local → IsLive y.plan.graph local at
+      alive local k register kind home counted = by i.place counted
+        where
+          at_core : IsCountedOn y.plan t at local → IsLive y.plan.graph local at
+          at_core (by_entry _ none live) = live
+          at_core (by_assignment _ logged live) = absurd (no_register y.plan s.plan t code.of logged.frame local k register kind home)
+
+          by : (stand : NodePlace) → CountsOn y.plan t at stand local → IsLive y.plan.graph local at
+          by the_entry live = live
+          by the_core live = at_core live
+
+      local_right : (local : ℕ) (k : Kind) → slice_get t.kinds local ≡ Some k → CountsOn y.plan t at i.place local →
+          HomeCarries (frame_loads (shapes.resumed_view y.plan code ws)) (shapes.resumed y.plan code ws) (home_of t.locals local)
+          (typed k (slice_index_or locals local (pos 0)))
+      local_right local k there counted = by (home_of t.locals local) refl (at_home local k there counted)
+        where
+          by : (home : Home) → home_of t.locals local ≡ home →
+              HomeCarries (frame_loads i.view) r.registers home (typed k (slice_index_or locals local (pos 0))) →
+              HomeCarries (frame_loads (shapes.resumed_view y.plan code ws)) (shapes.resumed y.plan code ws) home
+              (typed k (slice_index_or locals local (pos 0)))
+          by (InRegister register) stands_in carried = record {
+            held = carried.held;
+            form = register_there register (of_local local k register there (alive local k register there stands_in counted) stands_in) ∙ carried.form;
+          }
+          by (InFrame address) stands_in carried =
+              let word = stands_in_word y.plan s.plan t code.of local address stands_in in
+              let c : Contains r.framed word.0 =
+              (i.framed word.0).1 (record { local = local; counted = counted; home = stands_in ∙ ap (λ (a : ℕ). InFrame a) word.1 }) in
+              let same : durable_at ws address ≡ i.view.frame address =
+              subst (λ (a : ℕ). durable_at ws a ≡ i.view.frame a) (sym word.1) (word_there word.0 c) in
+              record { held = carried.held; answer = ap (λ (v : ℕ). Some v) same ∙ carried.answer }
 
       local_refers : (local array : ℕ) → slice_get (refers_in y.plan t) local ≡ Some (Some array) →
           IsNullOrReference (elements_of (flat_of y).variables array) (slice_index_or locals local (pos 0))
@@ -232,6 +300,21 @@ module _ (y : System) (s : IsSystem y) (w : World) (stands : Simulates y s w) wh
 
       -- ---- Where a store is pending
 
+      -- before a store its address and value are there
+      pending_in : (is : Node) → NodeAt y.plan.graph at is → IsPendingIn y.plan is.action seen r.registers
+      pending_in is there = by i.place i.may
+        where
+          at_core : IsReady y.plan t at seen i.view i.owed r.registers → IsPendingIn y.plan is.action seen r.registers
+          at_core (to_enter none enters) = enters.pending is there
+          at_core (to_assign logged may) =
+              let same : logged.assigns.is ≡ is = same_Some logged.assigns.is is (sym logged.assigns.at ∙ there) in
+              subst (λ (z : Node). IsPendingIn y.plan z.action seen r.registers) same
+              (subst (λ (a : Action). IsPendingIn y.plan a seen r.registers) (sym logged.assigns.action) tt)
+
+          by : (stand : NodePlace) → May stand → IsPendingIn y.plan is.action seen r.registers
+          by the_entry enters = enters.pending is there
+          by the_core ready = at_core ready.0
+
       module _ (is : Node) (there : NodeAt y.plan.graph at is) (location : Location) (writes : is.writes ≡ Some location) where
         -- where it goes, and what it stores
         record Has : Type 0 where
@@ -264,7 +347,7 @@ module _ (y : System) (s : IsSystem y) (w : World) (stands : Simulates y s w) wh
 
           pending : HasPending y.plan store variable kind r.registers
           pending =
-              subst (λ (a : Action). IsPendingIn y.plan a (seen_by kept i.graph_thread) r.registers) does (i.enters.pending is there) store owed.1
+              subst (λ (a : Action). IsPendingIn y.plan a seen r.registers) does (pending_in is there) store owed.1
 
           lies : LiesInWritten (naming_of (flat_of y) code.of.text locals) is.writes (stored_element store)
           lies =
@@ -288,7 +371,7 @@ module _ (y : System) (s : IsSystem y) (w : World) (stands : Simulates y s w) wh
             to = lies.lies.within.to_hi;
             by_key = λ key keyed.
                 subst (λ (v : ℕ). naming_of (flat_of y) code.of.text locals v key ≡ Some store.element) variable_is (lies.lies.by_key key keyed);
-            is = register_there pending_address ((code.is.kept at i.own pending_address).1 (of_address (stores is variable kind next there does)))
+            is = register_there pending_address (of_address (stores is variable kind next there does))
                 ∙ (pending.address ∙ ap (λ (k : ℕ). variable_at (map shape_of (flat_of y).variables) k store.element) variable_is);
           }
 
@@ -306,7 +389,7 @@ module _ (y : System) (s : IsSystem y) (w : World) (stands : Simulates y s w) wh
               (referring.pending store (sym match.pending ∙ owed.1)) in
               subst (λ (v : ℕ). IsReferenceWord vs (variable_refers vs v) (read (shapes.resumed y.plan code ws) pending_value)) variable_is
               (subst (IsReferenceWord vs refers)
-              (sym (register_there pending_value ((code.is.kept at i.own pending_value).1 (of_value (stores is variable kind next there does))))) own)
+              (sym (register_there pending_value (of_value (stores is variable kind next there does)))) own)
 
           stored : Has
           stored =
@@ -331,15 +414,15 @@ module _ (y : System) (s : IsSystem y) (w : World) (stands : Simulates y s w) wh
         has : Has
         has = written is.action refl (stores_elements (flat_of y) s.plan.formed.shared.variables at is s.plan.formed.threads here)
 
-      goes_on : GoesOnAt y.plan code ws at
+      goes_on : GoesOnAt y.plan code ws at i.place
       goes_on = record {
         own = i.own;
-        resumes = subst (λ (q : ℕ). ResumesAt y.plan code at (resume_of q)) (sym resumes_own.point) i.resumes;
+        resumes = subst (λ (q : ℕ). ResumesAt y.plan code at i.place (resume_of q)) (sym resumes_own.point) i.resumes;
         numbers = locals;
         held = held;
         locals = local_right;
-        refer = λ local array refers live. local_refers local array refers;
-        unnull = λ local array refers live among. local_some local array refers among;
+        refer = λ local array refers counted. local_refers local array refers;
+        unnull = λ local array refers counted among. local_some local array refers among;
         locks = subst (HasKept y.plan.log ws t.number) i.locks (resumes_own.kept i.point);
         once = once;
         pending = λ is location there writes. (has is there location writes).address;
@@ -348,7 +431,7 @@ module _ (y : System) (s : IsSystem y) (w : World) (stands : Simulates y s w) wh
 
     shape_by : Describes y.plan code kept r → HasThreadShape y.plan code ws
     shape_by (between none point) = shapes.idle (resumes_own.point ∙ point)
-    shape_by (inside some i) = shapes.resumes i.graph_thread.at (λ zeroth. i.point (sym resumes_own.point ∙ zeroth)) (goes_on i)
+    shape_by (inside some i) = shapes.resumes i.graph_thread.at i.place (λ zeroth. i.point (sym resumes_own.point ∙ zeroth)) (goes_on i)
 
     pub thread_shape : HasThreadShape y.plan code ws
     thread_shape = shape_by (left_describes y s w stands n below)

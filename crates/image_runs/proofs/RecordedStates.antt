@@ -7,6 +7,7 @@ use Rattle.std.proofs.Math.Bridge.{le_prop}
 use Rattle.std.proofs.lemmas.Bool.{cases_Bool, cases_lt, cond-true, cond-false, eq-eqb, or_left, true≢false}
 use Rattle.std.proofs.lemmas.List.{length-replicate}
 use Rattle.std.proofs.lemmas.Option.{none-some, same_Some, slice_get_within}
+use Rattle.log_schemes.specs.declared.locals.Locals.TheVariants.{Registers}
 use Rattle.log_schemes.specs.declared.log.Log.{Log}
 use Rattle.machine_events.specs.declared.event.Event.TheVariants.{Crash}
 use Rattle.ido_base.specs.declared.location.Shape.{Shape}
@@ -33,7 +34,7 @@ use Rattle.source_machine.specs.Discipline.{HoldsNames, StateKeeps, ThreadKeeps}
 use Rattle.source_machine.proofs.Public.{held_found, held_there}
 use Rattle.rv64_isa.specs.declared.object.Slot.{Slot}
 use Rattle.machine_model.specs.Machine.{Hart, World, after_crash_of, after_event, durable_point, fresh_hart, happens, phase_after_crash, record_of}
-use Rattle.log_schemes.specs.Schemes.{numbers_from}
+use Rattle.log_schemes.specs.Schemes.{locals_of, numbers_from}
 use Rattle.boundary_code.specs.Boundaries.{is_empty}
 use Rattle.flow_graph.specs.Actions.{FlowState, GraphThread}
 use Rattle.flow_graph.specs.Lockstep.{GraphThreadMatches, Matches, IsOwnNode}
@@ -258,7 +259,8 @@ module _ (log : Log) (program : List (List Slot)) (locks : ℕ) (words : List �
 
 -- ---- The state
 
-module _ (locked : ChosenAreLocked) (y : System) (s : IsSystem y) (words : List ℕ) (shape : HasShape y.plan s.codes words) where
+module _ (locked : ChosenAreLocked) (y : System) (registers : locals_of y.plan.log ≡ Registers) (s : IsSystem y) (words : List ℕ)
+    (shape : HasShape y.plan s.codes words) where
   abbrev x : f.Flat
   x = flat_of y
 
@@ -269,7 +271,7 @@ module _ (locked : ChosenAreLocked) (y : System) (s : IsSystem y) (words : List 
   count = thread_count y
 
   of : (n : ℕ) (below : n < count) → IsSaid y.plan (s.codes.each n below) words
-  of n below = said locked y.plan s.plan (s.codes.each n below) words
+  of n below = said locked y.plan registers s.plan (s.codes.each n below) words
       (subst (λ (k : ℕ). HasLog y.plan.log k ws) (sym (s.codes.number n below)) (shape.logs n below)) (shape.threads n below)
 
   -- ---- Threads
@@ -552,4 +554,4 @@ module _ (locked : ChosenAreLocked) (y : System) (s : IsSystem y) (words : List 
   )
 
 pub shapes_are_states : ChosenAreLocked → ShapesAreStates
-shapes_are_states locked y s words shape = origin locked y s words shape
+shapes_are_states locked y registers s words shape = origin locked y registers s words shape

@@ -29,6 +29,7 @@ nothing_is_recorded log thread words idle = record {
       subst (λ (v : ℕ). IsDurable (word_at (map word_of words) (word_number (point_at log thread))) v) idle
       (durable_word words (word_number (point_at log thread)));
   bank = λ slot c. absurd (contains_none slot c);
+  frame = λ word c. absurd (contains_none word c);
 }
 
 module _ (log : Log) (thread : ℕ) (words : List Word) (has : HasLog log thread words) where

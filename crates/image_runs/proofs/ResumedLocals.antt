@@ -1,23 +1,27 @@
--- A log can keep the registers of locals.
-use Rattle.std.proofs.Common.{◌≡◌, ℕ, zero, suc, ◌+◌, ◌<◌, List, [], ◌∷◌, length, get_or, refl, ap, arith, sym, ◌∙◌, true, Some}
-use Rattle.std.specs.Prelude.{slice_get, slice_index}
+-- Where locals stand: registers that a log can keep, in which no assignment is logged and a thread counts on its live locals; or the frame.
+use Rattle.std.proofs.Common.{◌≡◌, ℕ, zero, suc, ◌<◌, List, [], ◌∷◌, length, inl, inr, refl, ap, arith, sym, ◌∙◌, subst, Bool, true, false, Some, Option}
+use Rattle.std.specs.Prelude.{Contains, slice_get, slice_index}
 use Rattle.std.specs.List.{list_all}
-use Rattle.std.proofs.lemmas.Bool.{and_parts}
-use Rattle.std.proofs.lemmas.List.{get_or-map}
-use Rattle.std.proofs.lemmas.List.Elements.{Contains-get_or}
-use Rattle.std.proofs.lemmas.Option.{none-some, same_Some, slice_get_within}
+use Rattle.std.proofs.lemmas.Bool.{and_parts, true≢false}
 use Rattle.ido_ints.specs.declared.kinds.Kind.{Kind}
-use Rattle.c_tree.specs.Flats as f
+use Rattle.log_schemes.specs.declared.locals.Locals.{Locals}
+use Rattle.log_schemes.specs.declared.locals.Locals.TheVariants.{Registers, Frame}
+use Rattle.log_schemes.specs.declared.log.Log.{Log}
+use Rattle.log_schemes.specs.Schemes.{locals_of, may_keep_at, told, told_at}
 use Rattle.memory_layout.specs.declared.roles.TheConstants.{LOCALS}
-use Rattle.memory_layout.specs.Roles.{is_kept}
-use Rattle.flow_graph.specs.declared.graph.Part.{Part}
-use Rattle.flow_graph.specs.Lowering.{thread_count, part, parts}
+use Rattle.memory_layout.specs.Roles.{is_kept, pending_address, pending_value}
+use Rattle.flow_graph.specs.IdempotentCuts.{AreAtWrites}
+use Rattle.flow_graph.specs.Liveness.{IsLive}
 use Rattle.log_states.specs.Logs.{IsKeepable}
-use Rattle.log_states.proofs.Public.{kept_are_keepable}
-use Rattle.thread_code.specs.Plans.{Plan, Thread, IsThread, IsPlan, home_of_colour}
-use Rattle.image_checks.proofs.Public.{part_is}
+use Rattle.log_states.proofs.Public.{contains_none, kept_are_keepable}
+use Rattle.thread_code.specs.Plans.{Plan, Thread, IsLogged, IsThread, IsPlan, home_at}
+use Rattle.thread_code.specs.RegistersAtNodes.{by_entry}
+use Rattle.recovered_threads.specs.RecordDescriptions.{CountsOn, NodePlace, the_core, the_entry}
+use Rattle.recovered_threads.proofs.Public.{stands_in_word}
+use Rattle.flat_compile.proofs.Public.{coloured, few_colours, home_is}
+use Rattle.image_checks.proofs.Public.{no_frame, word_of}
 use Rattle.expr_code.specs.declared.home.Home.{Home}
-use Rattle.expr_code.specs.declared.home.Home.TheVariants.{InRegister}
+use Rattle.expr_code.specs.declared.home.Home.TheVariants.{InFrame, InRegister}
 use Rattle.expr_code.specs.EvaluationCode.{home_of}
 use Rattle.expr_code.proofs.Public.{same_register}
 
@@ -28,32 +32,74 @@ one_kept [] at h below = absurd (let z : ⊥ = omega (arith, below) in z)
 one_kept (x ∷ xs) zero h below = (and_parts (is_kept x) (list_all is_kept xs) h).0
 one_kept (x ∷ xs) (suc at) h below = one_kept xs at (and_parts (is_kept x) (list_all is_kept xs) h).1 (omega (arith, below))
 
-locals_of : (ts : List f.Thread) (first k : ℕ) (p : Part) (t : f.Thread) → slice_get (parts ts first) k ≡ Some p → slice_get ts k ≡ Some t →
-    p.locals ≡ length t.locals
-locals_of [] first k p t g i = absurd (none-some t i)
-locals_of (u ∷ us) first zero p t g i =
-    sym (ap (λ (q : Part). q.locals) (same_Some (part u first) p g)) ∙ ap (λ (v : f.Thread). length v.locals) (same_Some u t i)
-locals_of (u ∷ us) first (suc k) p t g i = locals_of us (first + thread_count u) k p t g i
+-- each log keeps those of a pending write
+address_kept : (ls : Locals) → may_keep_at ls pending_address ≡ true
+address_kept Registers = refl
+address_kept Frame = refl
 
-module _ (p : Plan) (plan : IsPlan p) (t : Thread) (is : IsThread p t) where
-  local_kept : (local register : ℕ) → local < length t.kinds → home_of t.locals local ≡ InRegister register → is_kept register ≡ true
-  local_kept local register below there =
-      let count = plan.registers.locals t.number t.part is.colours is.nodes is.of_colours in
-      let inside : local < length is.colours =
-      omega (
-        arith,
-        below,
-        count,
-        locals_of p.flat.threads 0 t.number t.part is.text (part_is p plan t is) is.of_text,
-        ap (λ (ks : List Kind). length ks)
-            is.kinds,
-      ) in
-      let colour = get_or is.colours local 0 in
-      let exists : colour < 18 = plan.registers.exist t.number colour is.colours is.of_colours (Contains-get_or is.colours local 0 inside) in
-      let at : home_of t.locals local ≡ home_of_colour colour =
-      ap (λ (hs : List Home). home_of hs local) is.locals ∙ get_or-map home_of_colour is.colours local 0 (InRegister 0) inside in
-      ap is_kept (same_register register (slice_index LOCALS colour) (sym there ∙ at)) ∙ one_kept LOCALS colour refl exists
+value_kept : (ls : Locals) → may_keep_at ls pending_value ≡ true
+value_kept Registers = refl
+value_kept Frame = refl
 
-  pub local_keepable : (local : ℕ) (k : Kind) (register : ℕ) → slice_get t.kinds local ≡ Some k → home_of t.locals local ≡ InRegister register →
-      IsKeepable p.log register
-  local_keepable local k register there at = kept_are_keepable p.log register (local_kept local register (slice_get_within t.kinds local k there) at)
+pub address_keepable : (log : Log) → IsKeepable log pending_address
+address_keepable log = kept_are_keepable log pending_address (address_kept (locals_of log))
+
+pub value_keepable : (log : Log) → IsKeepable log pending_value
+value_keepable log = kept_are_keepable log pending_value (value_kept (locals_of log))
+
+-- and that of each colour
+pub colour_keepable : (log : Log) → locals_of log ≡ Registers → (colour : ℕ) → colour < 18 → IsKeepable log (slice_index LOCALS colour)
+colour_keepable log registers colour few =
+    let register = slice_index LOCALS colour in
+    kept_are_keepable log register (ap (λ (ls : Locals). may_keep_at ls register) registers ∙ one_kept LOCALS colour refl few)
+
+-- ---- A plan whose locals stand in the frame
+
+abbrev in_frame : Home → Bool
+in_frame (InRegister register) = false
+in_frame (InFrame address) = true
+
+module _ (p : Plan) (plan : IsPlan p) (t : Thread) (is : IsThread p t) (frame : locals_of p.log ≡ Frame) where
+  -- none stands in a register
+  pub no_register : (local : ℕ) (k : Kind) (register : ℕ) → slice_get t.kinds local ≡ Some k → home_of t.locals local ≡ InRegister register → ⊥
+  no_register local k register there at = true≢false (sym (ap in_frame (sym at ∙ (word_of p plan t is frame local k there).1)))
+
+-- ---- A plan whose locals stand in registers
+
+module _ (p : Plan) (registers : locals_of p.log ≡ Registers) where
+  pub unlogged : (t : Thread) (node : ℕ) → ¬ (IsLogged p t node)
+  unlogged t node logged = no_frame (locals_of p.log) registers logged.frame
+
+  pub counts_on : (t : Thread) (node : ℕ) (place : NodePlace) (local : ℕ) → IsLive p.graph local node → CountsOn p t node place local
+  counts_on t node the_entry local live = live
+  counts_on t node the_core local live = by_entry local (unlogged t node) live
+
+  -- boundaries stand before unlocks and stores alone
+  pub at_writes : IsPlan p → AreAtWrites p.graph p.boundaries
+  at_writes plan = record {
+    after = plan.at_writes.after;
+    before = λ node has. elim (plan.at_writes.before node has) [
+      | inl gives ↦ inl gives
+      | inr (inl writes) ↦ inr writes
+      | inr (inr logged) ↦ absurd (unlogged logged.thread node logged.logged)
+    ];
+    before_count = plan.at_writes.before_count;
+    after_count = plan.at_writes.after_count;
+  }
+
+  -- a bank isn't told of writes
+  pub untold : (written : Option ℕ) (pair : ℕ × ℕ) → Contains (told p.log written) pair → ⊥
+  untold written pair c = contains_none pair (subst (λ (ls : Locals). Contains (told_at ls written) pair) registers c)
+
+  module _ (plan : IsPlan p) (t : Thread) (is : IsThread p t) where
+    pub unframed : (local word : ℕ) → home_of t.locals local ≡ InFrame word → ⊥
+    unframed local word at = no_frame (locals_of p.log) registers (stands_in_word p plan t is local word at).2.frame
+
+    pub local_keepable : (local : ℕ) (k : Kind) (register : ℕ) → slice_get t.kinds local ≡ Some k → home_of t.locals local ≡ InRegister register →
+        IsKeepable p.log register
+    local_keepable local k register there at =
+        let colour = coloured p plan t is local k there in
+        let home : home_of t.locals local ≡ InRegister (slice_index LOCALS colour.0) =
+        home_is p plan t is local colour.0 colour.1 ∙ ap (λ (ls : Locals). home_at ls p.log t.number colour.0) registers in
+        subst (IsKeepable p.log) (sym (same_register register (slice_index LOCALS colour.0) (sym at ∙ home)))
+        (colour_keepable p.log registers colour.0 (few_colours p plan t is local colour.0 colour.1))

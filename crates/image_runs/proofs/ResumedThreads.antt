@@ -1,13 +1,15 @@
 -- The thread of the source that words with the shape describe: it stands at its node, or has not begun.
 use Rattle.std.proofs.Common.{◌≡◌, ◌≢◌, refl, inl, inr, ℕ, zero, suc, ◌*◌, ◌%◌, ◌<◌, List, [], ◌∷◌, length, map, replicate, ap, sym, ◌∙◌}
 use Rattle.std.proofs.Common.{subst, arith, Option, Some, None, Bool, true, false}
-use Rattle.std.specs.Prelude.{slice_get, slice_index_or, Contains, is_some, ◌^◌, ℤ, pos}
+use Rattle.std.specs.Prelude.{slice_get, slice_index_or, Contains, is_some, ◌^◌, ◌==◌, ℤ, pos, if◌then◌else◌}
 use Rattle.std.specs.List.{AllZip}
 use Rattle.std.specs.Option.{option_map}
 use Rattle.std.proofs.lemmas.Bool.{true≢false}
+use Rattle.std.proofs.lemmas.List.Elements.{Contains-append_cases}
 use Rattle.std.proofs.lemmas.Option.{none-some, same_Some, slice_get-map}
 use Rattle.ido_base.specs.Layout.{variable_at, word_number}
-use Rattle.log_schemes.specs.Layout.{point_at}
+use Rattle.log_schemes.specs.Layout.{frame_at, point_at}
+use Rattle.log_schemes.specs.declared.locals.Locals.TheVariants.{Registers}
 use Rattle.ido_base.specs.Locks.{holds_none}
 use Rattle.ido_base.specs.Words.{Word, word_of}
 use Rattle.ido_ints.specs.declared.kinds.Kind.{Kind}
@@ -23,6 +25,7 @@ use Rattle.c_tree.specs.Exprs.{LockName, Placed}
 use Rattle.c_tree.specs.LockNames.{Held, held_names, holds, none_held, lock_names}
 use Rattle.c_tree.specs.NullReferences.{is_among}
 use Rattle.c_tree.specs.References.{IsFlatThreadReferring, IsLocalReferring, variable_refers}
+use Rattle.c_tree.specs.LockDiscipline.{key_locals}
 use Rattle.c_tree.specs.Values.{lock_number}
 use Rattle.c_tree.specs.WellFormed.{AreFlatStatements, elements_in, shape_of}
 use Rattle.c_ranges.specs.RunInvariants.{IsReferringThread, IsStoreInRange, IsThreadOf, RefersSo}
@@ -34,7 +37,7 @@ use Rattle.memory_layout.specs.Roles.{pending_address, pending_value}
 use Rattle.rv64_isa.specs.Rows.{read}
 use Rattle.machine_model.specs.Machine.{bank_of, durable_point, recorded, record_of, resumed_registers}
 use Rattle.boundary_code.specs.Boundaries.{is_empty}
-use Rattle.log_schemes.specs.Schemes.{kept_locks}
+use Rattle.log_schemes.specs.Schemes.{kept_locks, locals_of, told}
 use Rattle.variable_words.proofs.Public.{address_is, element_whole, well_formed_placed}
 use Rattle.flow_graph.specs.Actions.{FlowState, GraphThread, Seen, graph_thread_start, seen_by}
 use Rattle.flow_graph.specs.Liveness.{NodeAt, IsLive}
@@ -48,32 +51,35 @@ use Rattle.region_attempts.specs.KnownReferences.{AreUnnull, known_at}
 use Rattle.region_attempts.specs.Origins.{IsPendingAt}
 use Rattle.region_attempts.proofs.Public.{none_known}
 use Rattle.region_cutter.specs.LocksAtBoundaries.{ChosenAreLocked}
-use Rattle.log_states.specs.Logs.{Record, side_of, IsKeepable, IsRecord, IsDurable, IsRecorded, HasLog, nothing_recorded, slot_in, slots_of, value_of, kept_in}
-use Rattle.log_states.specs.Logs.{bank_word}
+use Rattle.log_states.specs.Logs.{Record, KeepsForWrite, IsKeepable, IsRecord, IsDurable, IsRecorded, HasLog, bank_word, nothing_recorded, slot_in}
+use Rattle.log_states.specs.Logs.{slots_of, value_of}
 use Rattle.log_schemes.specs.SchemeFacts.{AreLoggable}
 use Rattle.log_states.specs.BanksRead.{HasKept}
 use Rattle.log_states.specs.Laws.{ResumesRecord}
-use Rattle.log_states.proofs.Public.{banks_read, kept_are_keepable, lock_value, log_facts, nothing_is_record, register_value, slot_cases}
-use Rattle.thread_code.specs.Plans.{Plan, Thread, IsPlan, IsKept, of_local, of_address, of_value}
+use Rattle.log_states.proofs.Public.{banks_read, contains_none, lock_value, log_facts, nothing_is_record, register_value, slot_cases}
+use Rattle.thread_code.specs.Plans.{Plan, Thread, IsPlan, IsKept, IsKeptBefore, of_address, of_entry, of_local, of_number, of_value, of_word}
+use Rattle.thread_code.specs.Plans.{names_in as keys_of}
+use Rattle.thread_code.specs.NodeCodeEffects.{bytes_written}
 use Rattle.thread_code.specs.Plans.{held_names_before, locks_before, set_before}
 use Rattle.thread_code.proofs.Public.{numbers_some}
-use Rattle.thread_code.specs.RegistersAtNodes.{HasPending, IsPendingIn, Enters}
-use Rattle.recovered_threads.specs.RecordDescriptions.{Code, Describes, between, inside}
+use Rattle.thread_code.specs.RegistersAtNodes.{HasPending, IsPendingIn, Enters, LogView, frame_loads, to_enter}
+use Rattle.recovered_threads.specs.RecordDescriptions.{Code, ComesNext, CountsOn, Describes, MayGoOn, NodePlace, between, inside, registers_kept}
+use Rattle.recovered_threads.specs.RecordDescriptions.{the_core, the_entry}
 use Rattle.image_checks.specs.Checks.{IsElementOf, IsReferenceWord}
 use Rattle.flat_compile.specs.ResumePlaces.{refers_in}
 use Rattle.image_checks.specs.Logs.{AreOnce}
 use Rattle.image_checks.proofs.Public.{IsGuardedStore, guarded_store, key_is_held}
-use Rattle.image_runs.specs.Shapes.{GoesOnAt, HasThreadShape, idle, resumes}
+use Rattle.image_runs.specs.Shapes.{GoesOnAt, HasThreadShape, idle, resumed_view, resumes}
 use Rattle.image_runs.proofs.GuardedElements.{guards_element}
 use Rattle.image_checks.proofs.Public.{knowns_are, refers_are, zip_there}
 use Rattle.image_runs.proofs.HeldAtNodes.{all, node_is, lowered_is, stands}
 use Rattle.image_runs.proofs.HeldAtNodes.{keeps, long, left_is, left_known, left_refers, sets, resumed_hold}
-use Rattle.image_checks.proofs.Public.{AreApart, apart_by, live_same, locks_are, locks_same, loggable}
+use Rattle.image_checks.proofs.Public.{AreApart, apart_by, live_same, locks_are, locks_same, loggable, no_frame}
 use Rattle.image_runs.proofs.LeftStatements.{opened_all_left}
 use Rattle.image_runs.proofs.MendedNumbers.{mended_from, mended_hold, mended_none, mended_refer, mended_stays, mended_unnull}
 use Rattle.image_runs.proofs.RecordedWords.{durable_word, nothing_is_recorded, point_small, register_small, record_none}
 use Rattle.image_checks.proofs.Public.{IsLong, refers_by, variable_long}
-use Rattle.image_runs.proofs.ResumedLocals.{local_keepable}
+use Rattle.image_runs.proofs.ResumedLocals.{address_keepable, counts_on, local_keepable, unframed, unlogged, untold, value_keepable}
 use Rattle.image_runs.proofs.SureReferences.{left_sure}
 use Rattle.image_checks.proofs.Public.{StoresAs, StoresElements, stores_elements}
 use Rattle.expr_code.specs.EvaluationCode.{home_of, HomeCarries}
@@ -125,6 +131,13 @@ as_long [] (z ∷ ls) h = absurd h
 as_long (k ∷ ks) [] h = absurd h
 as_long (k ∷ ks) (z ∷ ls) h = ap suc (as_long ks ls h.1)
 
+abbrev no_word : Bool → List ℕ
+no_word none = if none then [] else []
+
+no_words : (none : Bool) (word : ℕ) → Contains (no_word none) word → ⊥
+no_words true word c = contains_none word c
+no_words false word c = contains_none word c
+
 -- ---- What a thread's log says of it
 
 -- a thread of the source and of the graph, and the record in the words that describes them
@@ -156,7 +169,7 @@ pub record IsSaid (p : Plan) (code : Code p) (words : List ℕ) : Type 0 where
       holds_none kept.holders code.thread.number ≡ is_empty (map (lock_number thread.locals) (held_names (lock_names p.flat code.of.text) set)) →
       Describes p code kept entry
 
-module _ (locked : ChosenAreLocked) (p : Plan) (plan : IsPlan p) (code : Code p) (words : List ℕ)
+module _ (locked : ChosenAreLocked) (p : Plan) (in_registers : locals_of p.log ≡ Registers) (plan : IsPlan p) (code : Code p) (words : List ℕ)
     (log : HasLog p.log code.thread.number (map word_of words)) where
   abbrev ws : List Word
   ws = map word_of words
@@ -234,7 +247,7 @@ module _ (locked : ChosenAreLocked) (p : Plan) (plan : IsPlan p) (code : Code p)
 
   -- ---- At a node
 
-  module _ (node : ℕ) (some : durable_point p.log ws n ≢ 0) (g : GoesOnAt p code ws node) where
+  module _ (node : ℕ) (place : NodePlace) (some : durable_point p.log ws n ≢ 0) (g : GoesOnAt p code ws node place) where
     abbrev registers : List ℕ
     registers = resumed_registers p.log ws n
 
@@ -274,6 +287,16 @@ module _ (locked : ChosenAreLocked) (p : Plan) (plan : IsPlan p) (code : Code p)
     locals_unnull : AreUnnull refers known locals
     locals_unnull = mended_unnull x.variables known t.kinds refers g.numbers own_refers g.held
 
+    abbrev view : LogView
+    view = resumed_view p code ws
+
+    -- the thread counts on those that are live
+    abbrev Alive : (local : ℕ) → Type 0
+    Alive local = IsLive p.graph local node
+
+    counted : (local : ℕ) → Alive local → CountsOn p t node place local
+    counted local live = counts_on p in_registers t node place local live
+
     -- a live one is right already
     stays : (local : ℕ) → IsLive p.graph local node → slice_index_or g.numbers local (pos 0) ≡ slice_index_or locals local (pos 0)
     stays local live = by (slice_get refers local) refl
@@ -283,28 +306,32 @@ module _ (locked : ChosenAreLocked) (p : Plan) (plan : IsPlan p) (code : Code p)
 
         right : (r : Option ℕ) → slice_get refers local ≡ Some r → RefersSo x.variables r (slice_index_or g.numbers local (pos 0))
         right None e = tt
-        right (Some array) e = g.refer local array (array_there array e) live
+        right (Some array) e = g.refer local array (array_there array e) (counted local live)
 
         by : (o : Option (Option ℕ)) → slice_get refers local ≡ o → slice_index_or g.numbers local (pos 0) ≡ slice_index_or locals local (pos 0)
         by None e = sym (mended_none x.variables known t.kinds refers g.numbers own_refers g.held local e)
         by (Some r) e =
             sym (mended_stays x.variables known t.kinds refers g.numbers own_refers g.held local r e (right r e)
             (λ array refers_so among.
-            g.unnull local array (array_there array (e ∙ ap (λ (o : Option ℕ). Some o) refers_so)) live
+            g.unnull local array (array_there array (e ∙ ap (λ (o : Option ℕ). Some o) refers_so)) (counted local live)
             (ap (λ (ks : List ℕ). is_among ks local) (knowns_are p t code.of node) ∙ among)))
 
     carried : (local : ℕ) (k : Kind) → slice_get t.kinds local ≡ Some k → IsLive p.graph local node →
-        HomeCarries registers (home_of t.locals local) (typed k (slice_index_or locals local (pos 0)))
+        HomeCarries (frame_loads view) registers (home_of t.locals local) (typed k (slice_index_or locals local (pos 0)))
     carried local k there live =
-        subst (λ (z : ℤ). HomeCarries registers (home_of t.locals local) (typed k z)) (stays local live) (g.locals local k there live)
+        subst (λ (z : ℤ). HomeCarries (frame_loads view) registers (home_of t.locals local) (typed k z)) (stays local live)
+        (g.locals local k there (counted local live))
 
     -- ---- Locks and keys
 
     abbrev own_locks : List ℕ
     own_locks = locks_before p t locals node
 
+    keys : (k : ℕ) (z : LockName) → slice_get (keys_of p t) k ≡ Some z → holds set k ≡ true → (local : ℕ) → Contains (key_locals z) local → Alive local
+    keys k z there held local c = plan.keys_live t code.of node g.own k local z there held c
+
     same_locks : locks_before p t g.numbers node ≡ own_locks
-    same_locks = locks_same p plan t code.of g.numbers locals node g.own stays
+    same_locks = locks_same p plan t code.of Alive g.numbers locals node keys stays
 
     -- a held key names one element, by these numbers and by those
     key_there : (variable key element : ℕ) → holds set key ≡ true → names_in x.variables own_names g.numbers variable key ≡ Some element →
@@ -312,7 +339,7 @@ module _ (locked : ChosenAreLocked) (p : Plan) (plan : IsPlan p) (code : Code p)
     key_there variable key element held named =
         sym (held_names_it x.variables own_names set locals variable key held)
         ∙ (held_keys_stay x.variables own_names set locals g.numbers variable key
-        (λ k y there own. sym (live_same p plan t code.of g.numbers locals node g.own stays k y there own))
+        (λ k y there own. sym (live_same p plan t code.of Alive g.numbers locals node keys stays k y there own))
         ∙ (held_names_it x.variables own_names set g.numbers variable key held ∙ named))
 
     -- ---- The pending store
@@ -387,7 +414,7 @@ module _ (locked : ChosenAreLocked) (p : Plan) (plan : IsPlan p) (code : Code p)
         value = record {
           held = Holds-reduced kind (pos (read registers pending_value));
           below =
-              register_small p.log n ws log pending_value (kept_are_keepable p.log pending_value refl);
+              register_small p.log n ws log pending_value (value_keepable p.log);
           low = low_bytes kind (read registers pending_value);
         };
       }
@@ -471,16 +498,45 @@ module _ (locked : ChosenAreLocked) (p : Plan) (plan : IsPlan p) (code : Code p)
     keeps_locks : HasKept p.log ws n own_locks
     keeps_locks = subst (λ (ls : List ℕ). HasKept p.log ws n ls) same_locks g.locks
 
+    -- what it is told of the write that comes
+    abbrev written_at : NodePlace → Option ℕ
+    written_at the_entry = None
+    written_at the_core = bytes_written is.action
+
+    comes : (at : NodePlace) → ComesNext p node at (written_at at)
+    comes the_entry = refl
+    comes the_core = λ other there. ap (λ (z : Node). bytes_written z.action) (same_Some is other (sym here ∙ there))
+
     abbrev entry : Record
-    entry = record { point = durable_point p.log ws n; locks = own_locks; live = code.is.places.live node; registers = registers }
+    entry = record {
+      point = durable_point p.log ws n;
+      locks = own_locks;
+      live = registers_kept code.is.places node place;
+      registers = registers;
+      written = written_at place;
+      framed = [];
+      frame = λ word. 0;
+    }
 
     kept_keepable : (slot : ℕ) → IsKept p t node slot → IsKeepable p.log slot
-    kept_keepable slot (of_local local k own there live at) = local_keepable p plan t code.of local k own there at
-    kept_keepable slot (of_address own) = kept_are_keepable p.log pending_address refl
-    kept_keepable slot (of_value own) = kept_are_keepable p.log pending_value refl
+    kept_keepable slot (of_local local k own there live at) = local_keepable p in_registers plan t code.of local k own there at
+    kept_keepable slot (of_address own) = address_keepable p.log
+    kept_keepable slot (of_value own) = value_keepable p.log
+
+    before_keepable : (slot : ℕ) → IsKeptBefore p t node slot → IsKeepable p.log slot
+    before_keepable slot (of_entry _ kept) = kept_keepable slot kept
+    before_keepable slot (of_word logged) = address_keepable p.log
+    before_keepable slot (of_number logged) = value_keepable p.log
+
+    keepable_at : (at : NodePlace) (slot : ℕ) → Contains (registers_kept code.is.places node at) slot → IsKeepable p.log slot
+    keepable_at the_entry slot c = kept_keepable slot ((code.is.live node g.own slot).0 c)
+    keepable_at the_core slot c = before_keepable slot ((code.is.kept node g.own slot).0 c)
 
     live_keepable : (slot : ℕ) → Contains entry.live slot → IsKeepable p.log slot
-    live_keepable slot c = kept_keepable slot ((code.is.kept node g.own slot).0 c)
+    live_keepable slot c = keepable_at place slot c
+
+    for_write : KeepsForWrite p.log entry.written entry.live
+    for_write framed = absurd (no_frame (locals_of p.log) in_registers framed)
 
     is_record : IsRecord p.log entry
     is_record = record {
@@ -488,17 +544,24 @@ module _ (locked : ChosenAreLocked) (p : Plan) (plan : IsPlan p) (code : Code p)
       locks = are_loggable;
       live = live_keepable;
       registers = λ slot c. register_small p.log n ws log slot (live_keepable slot c);
+      told = λ pair c. absurd (untold p in_registers entry.written pair c);
+      for_write = for_write;
+      framed = λ word c. absurd (no_words (entry.point == 0) word c);
+      frame = λ word c. absurd (no_words (entry.point == 0) word c);
     }
 
     slot_is : (slot : ℕ) → Contains (slots_of p.log entry) slot → recorded p.log ws n slot ≡ value_of p.log entry slot
     slot_is slot c = elim (slot_cases p.log entry slot c) [
       | inl h ↦
           subst (λ (k : ℕ). recorded p.log ws n k ≡ value_of p.log entry k) (sym h.is)
-          (keeps_locks h.pair h.own ∙ sym (lock_value p.log entry are_loggable live_keepable h.pair h.own))
+          (elim (Contains-append_cases (kept_locks p.log own_locks) (told p.log entry.written) h.pair h.own) [
+            | inl lock ↦ keeps_locks h.pair lock ∙ sym (lock_value p.log entry are_loggable live_keepable for_write h.pair lock)
+            | inr write ↦ absurd (untold p in_registers entry.written h.pair write)
+          ])
       | inr h ↦
           subst (λ (k : ℕ). recorded p.log ws n k ≡ value_of p.log entry k) (sym h.is)
           (sym ((banks_read p.log).registers ws n h.register (live_keepable h.register h.own))
-          ∙ sym (register_value p.log entry are_loggable live_keepable h.register h.own))
+          ∙ sym (register_value p.log entry are_loggable live_keepable for_write h.register h.own))
     ]
 
     is_recorded : IsRecorded p.log n entry ws
@@ -506,12 +569,13 @@ module _ (locked : ChosenAreLocked) (p : Plan) (plan : IsPlan p) (code : Code p)
       point = durable_word words (word_number (point_at p.log n));
       bank = λ slot c.
           subst (λ (v : ℕ). IsDurable (slot_in p.log ws n entry slot) v) (slot_is slot c) (durable_word words (bank_word p.log n (bank_of entry.point) slot));
+      frame = λ word c. absurd (no_words (entry.point == 0) word c);
     }
 
     resumed_record : ResumesRecord p.log n entry ws
     resumed_record = log_facts.registers_resumed.between p.log n entry ws is_record is_recorded
 
-    enters : (kept : FlowState) → Enters p t node (seen_by kept graph_thread) (side_of entry) registers
+    enters : (kept : FlowState) → Enters p t node (seen_by kept graph_thread) view registers
     enters kept = record {
       at_side = resumed_record.side.registers;
       count = as_long t.kinds locals locals_hold;
@@ -520,6 +584,13 @@ module _ (locked : ChosenAreLocked) (p : Plan) (plan : IsPlan p) (code : Code p)
           let same : is ≡ other = same_Some is other (sym here ∙ there) in
           subst (λ (z : Node). IsPendingIn p z.action (seen_by kept graph_thread) registers) same (owed.enters (seen_by kept graph_thread) refl);
     }
+
+    may_go_on : (kept : FlowState) (at : NodePlace) → MayGoOn p t node at (seen_by kept graph_thread) view (pos 0) registers
+    may_go_on kept the_entry = enters kept
+    may_go_on kept the_core = (
+      to_enter (unlogged p in_registers t node) (enters kept),
+      λ other local number next there logged does. absurd (unlogged p in_registers t node logged),
+    )
 
     not_empty : (ls : List ℕ) → ls ≢ [] → is_empty ls ≡ false
     not_empty [] other = absurd (other refl)
@@ -557,21 +628,29 @@ module _ (locked : ChosenAreLocked) (p : Plan) (plan : IsPlan p) (code : Code p)
       describes = λ kept there holding.
           inside (holding ∙ not_empty (map (lock_number locals) (held_names own_names set))
           (λ none.
-          numbers_some locals (held_names_before p t node) (resumed_hold locked p plan code node _ g.own g.resumes)
+          numbers_some locals (held_names_before p t node) (resumed_hold locked p in_registers plan code node place _ g.own g.resumes)
           (locks_are p plan t code.of locals node ∙ none))) (record {
             graph_thread = graph_thread;
             there = there;
             goes_on = refl;
             own = g.own;
             point = some;
+            place = place;
             resumes = g.resumes;
             locks = refl;
             live = refl;
-            side = side_of entry;
-            enters = enters kept;
+            written = comes place;
+            framed = λ word. (
+              λ c. absurd (contains_none word c),
+              λ w. absurd (unframed p in_registers plan t code.of w.local (frame_at p.log n word) w.home),
+            );
+            view = view;
+            frame = λ word c. absurd (contains_none word c);
+            owed = pos 0;
+            may = may_go_on kept place;
           });
     }
 
   pub said : HasThreadShape p code ws → IsSaid p code words
   said (idle none) = said_between none
-  said (resumes node some g) = said_inside node some g
+  said (resumes node place some g) = said_inside node place some g

@@ -1,4 +1,5 @@
 -- What durable words must have so that threads can be resumed by them, whoever left them: points, recorded locks, numbers and references, and no history.
+-- Of a number that a logged assignment stores nothing is asked.
 use Rattle.std.specs.Prelude.{◌≡◌, ◌≢◌, ℕ, ◌<◌, List, length, map, slice_get, slice_index_or, Some, true, ℤ, pos}
 use Rattle.std.specs.List.{AllZip}
 use Rattle.ido_base.specs.declared.location.Location.{Location}
@@ -13,15 +14,16 @@ use Rattle.c_tree.specs.Ranges.{elements_of}
 use Rattle.c_tree.specs.References.{variable_refers}
 use Rattle.c_ranges.specs.Laws.{IsNullOrReference}
 use Rattle.rv64_isa.specs.Rows.{read}
-use Rattle.machine_model.specs.Machine.{durable_point, resume_of, record_of, resumed_registers}
+use Rattle.machine_model.specs.Machine.{bank_of, durable_at, durable_point, resume_of, record_of, resumed_registers}
 use Rattle.memory_layout.specs.Roles.{pending_address, pending_value}
 use Rattle.flow_graph.specs.Nodes.{Node}
-use Rattle.flow_graph.specs.Liveness.{NodeAt, IsLive}
+use Rattle.flow_graph.specs.Liveness.{NodeAt}
 use Rattle.flow_graph.specs.Paths.{naming_of}
 use Rattle.log_states.specs.Logs.{HasLog}
 use Rattle.log_states.specs.BanksRead.{HasKept}
 use Rattle.thread_code.specs.Plans.{Plan, IsNodeOf, locks_before}
-use Rattle.recovered_threads.specs.RecordDescriptions.{Code, Codes, ResumesAt}
+use Rattle.thread_code.specs.RegistersAtNodes.{LogView, frame_loads}
+use Rattle.recovered_threads.specs.RecordDescriptions.{Code, Codes, CountsOn, NodePlace, ResumesAt}
 use Rattle.flat_compile.specs.ResumePlaces.{refers_in, knowns_before}
 use Rattle.image_checks.specs.Logs.{AreOnce}
 use Rattle.image_checks.specs.Checks.{IsElementOf, IsReferenceWord}
@@ -33,20 +35,24 @@ module _ (p : Plan) (code : Code p) (words : List Word) where
   abbrev pub resumed : List ℕ
   resumed = resumed_registers p.log words code.thread.number
 
-  -- the thread goes on at the node: it is resumed where a boundary before it does that, and finds what it needs there
-  pub record GoesOnAt (node : ℕ) : Type 0 where
+  -- its log then: each word has what is durable of it
+  abbrev pub resumed_view : LogView
+  resumed_view = record { side = bank_of (durable_point p.log words code.thread.number); frame = λ address. durable_at words address }
+
+  -- the thread goes on at the node, there: it is resumed where a boundary does that, and finds what it needs
+  pub record GoesOnAt (node : ℕ) (place : NodePlace) : Type 0 where
     pub own : IsNodeOf code.thread node
-    pub resumes : ResumesAt p code node (resume_of (durable_point p.log words code.thread.number))
-    -- its locals have these numbers, of their kinds: each live one has its number in its register, and of another one it may be any
+    pub resumes : ResumesAt p code node place (resume_of (durable_point p.log words code.thread.number))
+    -- its locals have these numbers, of their kinds: each on which it counts has its number in its home, and of another one it may be any
     pub numbers : List ℤ
     pub held : AllZip Holds code.thread.kinds numbers
-    pub locals : (local : ℕ) (k : Kind) → slice_get code.thread.kinds local ≡ Some k → IsLive p.graph local node →
-        HomeCarries resumed (home_of code.thread.locals local) (typed k (slice_index_or numbers local (pos 0)))
-    -- each live reference is null, or one to its array
-    pub refer : (local array : ℕ) → slice_get (refers_in p code.thread) local ≡ Some (Some array) → IsLive p.graph local node →
+    pub locals : (local : ℕ) (k : Kind) → slice_get code.thread.kinds local ≡ Some k → CountsOn p code.thread node place local →
+        HomeCarries (frame_loads resumed_view) resumed (home_of code.thread.locals local) (typed k (slice_index_or numbers local (pos 0)))
+    -- each such reference is null, or one to its array
+    pub refer : (local array : ℕ) → slice_get (refers_in p code.thread) local ≡ Some (Some array) → CountsOn p code.thread node place local →
         IsNullOrReference (elements_of p.flat.variables array) (slice_index_or numbers local (pos 0))
-    -- each live reference that is known not to be null before the node is not null
-    pub unnull : (local array : ℕ) → slice_get (refers_in p code.thread) local ≡ Some (Some array) → IsLive p.graph local node →
+    -- each such reference that is known not to be null before the node is not null
+    pub unnull : (local array : ℕ) → slice_get (refers_in p code.thread) local ≡ Some (Some array) → CountsOn p code.thread node place local →
         is_among (knowns_before p code.thread node) local ≡ true → slice_index_or numbers local (pos 0) ≢ pos 0
     -- the bank that its point names keeps the locks that it holds there, by these numbers, and no lock twice
     pub locks : HasKept p.log words code.thread.number (locks_before p code.thread numbers node)
@@ -61,7 +67,7 @@ module _ (p : Plan) (code : Code p) (words : List Word) where
   -- the thread stands between two sections, or goes on at a node
   pub data HasThreadShape : Type 0 where
     idle : durable_point p.log words code.thread.number ≡ 0 → HasThreadShape
-    resumes : (node : ℕ) → durable_point p.log words code.thread.number ≢ 0 → GoesOnAt node → HasThreadShape
+    resumes : (node : ℕ) (place : NodePlace) → durable_point p.log words code.thread.number ≢ 0 → GoesOnAt node place → HasThreadShape
 
 -- as many words as the machine has, those of logs of 64 bits; what refers in variables is null or a reference to its array; each thread can be resumed; and no
 -- two threads have recorded the same lock

@@ -3,4 +3,4 @@ pub use Rattle.log_schemes.proofs.Contents.{contains_none, contains_first, conta
 pub use Rattle.log_schemes.proofs.Facts.{scheme, size_holds}
 pub use Rattle.log_schemes.proofs.KeptLocks.{IsListed, is_listed, locks_kept}
 pub use Rattle.log_schemes.proofs.BankLines.{few_lines, line_below, line_there}
-pub use Rattle.log_schemes.proofs.SlotNumbers.{register_exists, register_is, registers_exist}
+pub use Rattle.log_schemes.proofs.SlotNumbers.{register_exists}

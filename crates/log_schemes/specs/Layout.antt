@@ -1,6 +1,7 @@
 -- Where the logs of threads stand in memory: after the variables' lines, one after another.
 use Rattle.std.specs.Prelude.{ℕ, ◌+◌, ◌*◌, List, ◌++◌, replicate, Bool, nat_le, ◌&&◌, ◌||◌}
 use Rattle.ido_base.specs.Layout.{line_bytes, variables_base, logs_base, variable_lines, words_of_bytes}
+use Rattle.log_schemes.specs.declared.addresses.TheConstants.{FRAME}
 use Rattle.log_schemes.specs.declared.log.Log.{Log}
 use Rattle.log_schemes.specs.Schemes.{bank_distance, lines_of, size_of}
 
@@ -43,6 +44,10 @@ bank_bytes log = bank_distance (size_of log)
 -- the address of a slot of a bank
 abbrev pub slot_at : Log → (thread bank slot : ℕ) → ℕ
 slot_at log thread bank slot = log_of log thread + 64 + bank_bytes log * bank + 8 * slot
+
+-- the address of a word of its frame, where locals stand in the log
+abbrev pub frame_at : Log → (thread word : ℕ) → ℕ
+frame_at log thread word = log_of log thread + FRAME + 8 * word
 
 -- all words at the start: the initial bytes of the variables, and zeros
 unfoldable pub initial_words : Log → (threads : ℕ) → List ℕ → List ℕ

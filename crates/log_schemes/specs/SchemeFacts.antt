@@ -1,16 +1,18 @@
 -- What each scheme owes: where the slots of its banks stand, that no two parts of what a bank keeps have one slot, and that the locks which it keeps are read
 -- back. All else that is said of logs follows from this, whatever the scheme.
-use Rattle.std.specs.Prelude.{◌≡◌, ◌≢◌, ℕ, ◌+◌, ◌*◌, ◌/◌, ◌%◌, ◌^◌, ◌<◌, ◌≤◌, List, [], length, true}
+use Rattle.std.specs.Prelude.{◌≡◌, ◌≢◌, ℕ, ◌+◌, ◌*◌, ◌/◌, ◌%◌, ◌^◌, ◌<◌, ◌≤◌, List, [], length, Option, Some, true}
 use Rattle.std.specs.List.{Contains}
-use Rattle.memory_layout.specs.Roles.{bank_offset, is_kept}
+use Rattle.ido_base.specs.declared.limits.TheConstants.{LOCAL_REGISTERS}
+use Rattle.memory_layout.specs.Roles.{bank_offset}
 use Rattle.log_schemes.specs.declared.keeping.Keeping.{Keeping}
 use Rattle.log_schemes.specs.declared.keeping.Keeping.TheVariants.{Masked, Listed}
+use Rattle.log_schemes.specs.declared.locals.Locals.TheVariants.{Frame}
 use Rattle.log_schemes.specs.declared.log.Log.{Log}
 use Rattle.log_schemes.specs.declared.log.TheConstants.{MOST_LISTED}
 use Rattle.log_schemes.specs.declared.size.LogSize.{LogSize}
-use Rattle.log_schemes.specs.Layout.{bank_bytes, log_lines, log_of, log_words, slot_at}
-use Rattle.log_schemes.specs.Schemes.{AreOfMask, HaveRoom, bank_distance, bank_slots, distance_bits, keeping_of, keeps_register, kept_locks, lines_in_bank, lines_of}
-use Rattle.log_schemes.specs.Schemes.{lock_slot, locks_read, register_slot}
+use Rattle.log_schemes.specs.Layout.{bank_bytes, frame_at, log_lines, log_of, log_words, slot_at}
+use Rattle.log_schemes.specs.Schemes.{AreOfMask, HaveRoom, bank_distance, bank_slots, distance_bits, keeping_of, keeps_register, kept_locks}
+use Rattle.log_schemes.specs.Schemes.{lines_in_bank, lines_of, locals_of, lock_slot, locks_read, may_keep, register_slot, told}
 
 -- ---- Sizes
 
@@ -44,6 +46,19 @@ pub record BanksStand (log : Log) : Type 0 where
   pub apart : (one other slot beside : ℕ) → one < 2 → other < 2 → slot < bank_slots log → beside < bank_slots log →
       slot_index log one slot ≡ slot_index log other beside → one ≡ other
 
+-- ---- The frame
+
+-- how many words a word of the frame lies after the point
+abbrev pub frame_index : (word : ℕ) → ℕ
+frame_index word = 64 + word
+
+-- where locals stand in the log, there is a word for the locals of each colour; it is no word of a bank
+pub record FrameStands (log : Log) : Type 0 where
+  pub address : (thread word : ℕ) → frame_at log thread word ≡ log_of log thread + 8 * frame_index word
+  pub inside : (word : ℕ) → locals_of log ≡ Frame → word < LOCAL_REGISTERS → frame_index word < log_words log
+  pub apart : (word bank slot : ℕ) → locals_of log ≡ Frame → word < LOCAL_REGISTERS → bank < 2 → slot < bank_slots log →
+      frame_index word ≢ slot_index log bank slot
+
 -- ---- Slots
 
 -- a slot of a bank, but slot 0
@@ -56,7 +71,7 @@ pub record SlotsAreApart (log : Log) : Type 0 where
   -- a register that a bank keeps is one of 32, but not x0 nor the bank offset's, which the point gives
   pub registers : (register : ℕ) → keeps_register log register ≡ true → (0 < register) × (register < 32) × (register ≢ bank_offset)
   -- each register that a boundary may keep
-  pub kept : (register : ℕ) → is_kept register ≡ true → keeps_register log register ≡ true
+  pub kept : (register : ℕ) → may_keep log register ≡ true → keeps_register log register ≡ true
   pub register : (register : ℕ) → keeps_register log register ≡ true → IsOwnSlot log (register_slot log register)
   pub register_apart : (one other : ℕ) → keeps_register log one ≡ true → keeps_register log other ≡ true →
       register_slot log one ≡ register_slot log other → one ≡ other
@@ -65,10 +80,21 @@ pub record SlotsAreApart (log : Log) : Type 0 where
   pub lock_register : (index register : ℕ) → keeping_of log ≡ Listed → index < MOST_LISTED → keeps_register log register ≡ true →
       lock_slot log index ≢ register_slot log register
 
+-- what a bank is told of a write has slots of its own, beside those of locks, and where a write comes beside those of its registers too
+pub record ToldIsApart (log : Log) : Type 0 where
+  pub own : (written : Option ℕ) (pair : ℕ × ℕ) → Contains (told log written) pair → IsOwnSlot log pair.0
+  pub alone : (written : Option ℕ) (one other : ℕ × ℕ) → Contains (told log written) one → Contains (told log written) other → one.0 ≡ other.0 → one.1 ≡ other.1
+  pub lock : (written : Option ℕ) (pair : ℕ × ℕ) (index : ℕ) → Contains (told log written) pair → keeping_of log ≡ Listed → index < MOST_LISTED →
+      pair.0 ≢ lock_slot log index
+  pub register : (bytes register : ℕ) (pair : ℕ × ℕ) → Contains (told log (Some bytes)) pair → keeps_register log register ≡ true →
+      pair.0 ≢ register_slot log register
+
 -- what each log owes
 pub record SchemeFacts (log : Log) : Type 0 where
   pub stands : BanksStand log
+  pub frame : FrameStands log
   pub apart : SlotsAreApart log
+  pub told : ToldIsApart log
 
 abbrev pub SchemesOwe : Type 0
 SchemesOwe = (log : Log) → SchemeFacts log

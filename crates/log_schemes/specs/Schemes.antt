@@ -1,14 +1,18 @@
 -- What a scheme of logging is: a value of this record for each log. All that is said of logs elsewhere is by its fields.
-use Rattle.std.specs.Prelude.{◌≡◌, ℕ, zero, suc, ◌+◌, ◌*◌, ◌^◌, ◌<◌, ◌≤◌, List, [], ◌∷◌, map, length, take, Bool, not, nat_lt, ◌==◌, ◌&&◌}
+use Rattle.std.specs.Prelude.{◌≡◌, ℕ, zero, suc, ◌+◌, ◌-◌, ◌*◌, ◌%◌, ◌^◌, ◌<◌, ◌≤◌, List, [], ◌∷◌, map, length, take, Option, None, Some, Bool, not, nat_lt, ◌==◌, ◌&&◌, ◌||◌}
 use Rattle.ido_base.specs.Locks.{locks_in, mask_with}
 use Rattle.ido_base.specs.declared.limits.TheConstants.{MOST_LOCKS, MOST_MUTEXES}
 use Rattle.log_schemes.specs.declared.keeping.Keeping.{Keeping}
 use Rattle.log_schemes.specs.declared.keeping.Keeping.TheVariants.{Masked, Listed}
+use Rattle.log_schemes.specs.declared.addresses.TheConstants.{WRITE_ADDRESS_SLOT, WRITE_BYTES_SLOT, WRITE_VALUE_SLOT}
+use Rattle.log_schemes.specs.declared.locals.Locals.{Locals}
+use Rattle.log_schemes.specs.declared.locals.Locals.TheVariants.{Registers, Frame}
 use Rattle.log_schemes.specs.declared.log.Log.{Log}
-use Rattle.log_schemes.specs.declared.log.Log.TheVariants.{V1, V2}
-use Rattle.log_schemes.specs.declared.log.TheConstants.{FIRST_LOCK_SLOT, MOST_LISTED}
+use Rattle.log_schemes.specs.declared.log.Log.TheVariants.{V1, V2, Justdo}
+use Rattle.log_schemes.specs.declared.log.TheConstants.{FIRST_LOCK_OF_WRITES, FIRST_LOCK_SLOT, MOST_LISTED}
 use Rattle.log_schemes.specs.declared.size.LogSize.{LogSize}
 use Rattle.log_schemes.specs.declared.size.LogSize.TheVariants.{Lines16, Lines32}
+use Rattle.memory_layout.specs.Roles.{is_kept, pending_address, pending_value}
 
 -- ---- Sizes
 
@@ -43,10 +47,16 @@ pub record Scheme : Type 0 where
   pub register_at : (register : ℕ) → ℕ
   -- the slot of a listed lock, by its index in the list
   pub lock_at : (index : ℕ) → ℕ
+  -- where the locals of a thread stand
+  pub locals : Locals
 
 -- all registers but x0, which is 0, and x3, which the point gives; register r has slot r
 abbrev pub every_register : (register : ℕ) → Bool
 every_register register = nat_lt 0 register && nat_lt register 32 && not (register == 3)
+
+-- those of a pending write: x28 and x29
+abbrev pub is_pending : (register : ℕ) → Bool
+is_pending register = register == pending_address || register == pending_value
 
 abbrev pub scheme_of : Log → Scheme
 scheme_of V1 = record {
@@ -55,6 +65,7 @@ scheme_of V1 = record {
   has_register = every_register;
   register_at = λ register. register;
   lock_at = λ index. FIRST_LOCK_SLOT + index;
+  locals = Registers;
 }
 scheme_of V2 = record {
   size = Lines32;
@@ -62,6 +73,15 @@ scheme_of V2 = record {
   has_register = every_register;
   register_at = λ register. register;
   lock_at = λ index. FIRST_LOCK_SLOT + index;
+  locals = Registers;
+}
+scheme_of Justdo = record {
+  size = Lines32;
+  keeping = Listed;
+  has_register = is_pending;
+  register_at = λ register. register % 27;
+  lock_at = λ index. FIRST_LOCK_OF_WRITES + index;
+  locals = Frame;
 }
 
 abbrev pub size_of : Log → LogSize
@@ -78,6 +98,17 @@ register_slot log register = (scheme_of log).register_at register
 
 abbrev pub lock_slot : Log → (index : ℕ) → ℕ
 lock_slot log index = (scheme_of log).lock_at index
+
+abbrev pub locals_of : Log → Locals
+locals_of log = (scheme_of log).locals
+
+-- the registers that a boundary may keep: those of a pending write, and those of locals where locals stand in registers
+abbrev pub may_keep_at : Locals → (register : ℕ) → Bool
+may_keep_at Registers register = is_kept register
+may_keep_at Frame register = is_pending register
+
+abbrev pub may_keep : Log → (register : ℕ) → Bool
+may_keep log register = may_keep_at (locals_of log) register
 
 -- ---- Banks
 
@@ -108,6 +139,16 @@ kept_as Listed log locks = (0, length locks) ∷ listed_from log 0 locks
 
 abbrev pub kept_locks : Log → (locks : List ℕ) → List (ℕ × ℕ)
 kept_locks log locks = kept_as (keeping_of log) log locks
+
+-- ---- What a bank is told of the write that comes next, where each write has a record: how many bytes it has, or that none comes
+
+abbrev pub told_at : Locals → (written : Option ℕ) → List (ℕ × ℕ)
+told_at Registers written = []
+told_at Frame None = (WRITE_ADDRESS_SLOT, 0) ∷ (WRITE_VALUE_SLOT, 0) ∷ (WRITE_BYTES_SLOT, 0) ∷ []
+told_at Frame (Some bytes) = (WRITE_BYTES_SLOT, bytes) ∷ []
+
+abbrev pub told : Log → (written : Option ℕ) → List (ℕ × ℕ)
+told log written = told_at (locals_of log) written
 
 -- the locks that a bank says, where its slots have these values
 abbrev pub read_as : Keeping → Log → (slots : ℕ → ℕ) → List ℕ

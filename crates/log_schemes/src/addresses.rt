@@ -1,6 +1,6 @@
 //! Addresses within a thread's log: the point first, and from the next line on two banks of slots. The others of a bank are said by a log's scheme.
 ghost use Rattle.std.specs.Prelude.{◌≡◌};
-ghost use Rattle.log_schemes.specs.Layout.{log_of, point_at, slot_at};
+ghost use Rattle.log_schemes.specs.Layout.{frame_at, log_of, point_at, slot_at};
 
 use crate::log::Log;
 use ido_base::limits::LINE_BYTES;
@@ -20,6 +20,21 @@ pub const LINE_SLOTS: u8 = 8;
 /// The slot of the mask of the locks held, or of how many they are.
 pub const LOCKS_SLOT: u8 = 0;
 
+/// The slot of the address of a write, where each has a record.
+pub const WRITE_ADDRESS_SLOT: u8 = 1;
+
+/// The slot of its value.
+pub const WRITE_VALUE_SLOT: u8 = 2;
+
+/// The slot of how many bytes it has.
+pub const WRITE_BYTES_SLOT: u8 = 3;
+
+/// How far the frame of locals lies after the point, where locals stand in the log.
+pub const FRAME: u64 = 512;
+
+/// Lines of the frame.
+pub const FRAME_LINES: u8 = 3;
+
 /// The address of a thread's log.
 pub fn log_of(log: Log, thread: u32) -> u64
     ensures { result ≡ log_of log thread }
@@ -32,6 +47,13 @@ pub fn point_at(log: Log, thread: u32) -> u64
     ensures { result ≡ point_at log thread }
 {
     log_of(log, thread)
+}
+
+/// The address of a word of a thread's frame.
+pub fn frame_at(log: Log, thread: u32, word: u32) -> u64
+    ensures { result ≡ frame_at log thread word }
+{
+    log_of(log, thread) + FRAME + SLOT_BYTES * u64::from(word)
 }
 
 /// The address of a slot of a bank, 0 or 1.

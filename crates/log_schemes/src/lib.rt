@@ -5,6 +5,7 @@
 pub mod addresses;
 pub mod keeping;
 pub mod laws;
+pub mod locals;
 pub mod log;
 pub mod point;
 pub mod size;

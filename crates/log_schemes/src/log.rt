@@ -2,14 +2,18 @@
 ghost use Rattle.std.specs.Prelude.{◌≡◌, ◌<◌, ◌≤◌};
 ghost use Rattle.log_schemes.specs.Layout.{bank_bytes, log_lines, log_words};
 ghost use Rattle.log_schemes.specs.declared.keeping.Keeping.TheVariants.{Listed};
-ghost use Rattle.log_schemes.specs.Schemes.{bank_slots, keeping_of, keeps_register, lock_slot, most_locks, register_slot, size_of};
+ghost use Rattle.log_schemes.specs.Schemes.{bank_slots, keeping_of, keeps_register, locals_of, lock_slot, most_locks, register_slot, size_of};
 
 use crate::keeping::Keeping;
+use crate::locals::Locals;
 use crate::size::LogSize;
 use ido_base::limits::{MOST_LOCKS, MOST_MUTEXES};
 
 /// The first slot of a listed lock.
 pub const FIRST_LOCK_SLOT: u8 = 32;
+
+/// The first slot of a listed lock where each write has a record.
+pub const FIRST_LOCK_OF_WRITES: u8 = 4;
 
 /// How many locks a bank lists at most.
 pub const MOST_LISTED: u8 = 16;
@@ -22,6 +26,10 @@ pub enum Log {
     /// 2,048 bytes a thread: a point, and two banks of 48 words at offsets 64 and 1,088. A bank keeps how many locks are held, the live registers, and
     /// from slot 32 on the numbers of these locks, 16 at most.
     V2,
+    /// 2,048 bytes a thread, with banks as `V2` has them, and between the banks a frame of 18 words at offset 512 in which the thread's locals stand. Each
+    /// write of a section has a record of its own: a bank keeps how many locks are held, the address, the value and the bytes of the write, and from
+    /// slot 4 on the numbers of the locks.
+    Justdo,
 }
 
 impl Log {
@@ -31,7 +39,7 @@ impl Log {
     {
         match self {
             Log::V1 => LogSize::Lines16,
-            Log::V2 => LogSize::Lines32,
+            Log::V2 | Log::Justdo => LogSize::Lines32,
         }
     }
 
@@ -41,7 +49,7 @@ impl Log {
     {
         match self {
             Log::V1 => Keeping::Masked,
-            Log::V2 => Keeping::Listed,
+            Log::V2 | Log::Justdo => Keeping::Listed,
         }
     }
 
@@ -49,7 +57,10 @@ impl Log {
     pub fn keeps_register(self, register: u8) -> bool
         ensures { result ≡ keeps_register self register }
     {
-        0 < register && register < 32 && register != 3
+        match self {
+            Log::V1 | Log::V2 => 0 < register && register < 32 && register != 3,
+            Log::Justdo => register == 28 || register == 29,
+        }
     }
 
     /// The slot of a bank that has the register of this number.
@@ -59,7 +70,10 @@ impl Log {
         ensures exists { result < bank_slots self }
         ensures few { result < 48 }
     {
-        register
+        match self {
+            Log::V1 | Log::V2 => register,
+            Log::Justdo => register % 27,
+        }
     }
 
     /// The slot of a bank that has the lock of this index in the list, where locks are listed.
@@ -70,7 +84,20 @@ impl Log {
         ensures exists { result < bank_slots self }
         ensures few { result < 48 }
     {
-        FIRST_LOCK_SLOT + index
+        match self {
+            Log::V1 | Log::V2 => FIRST_LOCK_SLOT + index,
+            Log::Justdo => FIRST_LOCK_OF_WRITES + index,
+        }
+    }
+
+    /// Where the locals of a thread stand.
+    pub fn locals(self) -> Locals
+        ensures { result ≡ locals_of self }
+    {
+        match self {
+            Log::V1 | Log::V2 => Locals::Registers,
+            Log::Justdo => Locals::Frame,
+        }
     }
 
     /// How many mutexes there may be at most, with those of arrays.

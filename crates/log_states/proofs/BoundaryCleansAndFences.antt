@@ -5,17 +5,18 @@ use Rattle.log_schemes.specs.declared.log.Log.{Log}
 use Rattle.ido_base.specs.Words.{Word, Entry, word_at, last_position, live_value, entry_of}
 use Rattle.ido_base.specs.Growth.{AreEntries, PersistsThrough}
 use Rattle.ido_base.specs.Layout.{byte_number, word_number}
-use Rattle.log_schemes.specs.Layout.{point_at, slot_at}
+use Rattle.log_schemes.specs.Layout.{frame_at, point_at, slot_at}
 use Rattle.ido_base.proofs.Public.{reach_stays, cleans_reach, changed_refl, clean_entry, entries_append}
 use Rattle.rv64_isa.specs.Rows.{Cleans, Fences}
 use Rattle.machine_model.specs.Machine.{bank_of}
 use Rattle.log_states.specs.Logs.{Record, slots_of, value_of, bank_word, point_in, slot_in, IsWord, IsDurable, HasBank, IsRecorded}
 use Rattle.log_states.specs.Stages.{LogConfig, IsComing, ToStore, ToClean, Queued, IsWriting, IsPointed, Stage, Writing, Written, Pointed, PointQueued, Over}
-use Rattle.log_states.specs.Stages.{LogIs}
+use Rattle.log_states.specs.Stages.{LogIs, IsFlushing, FrameToClean, FrameQueued}
+use Rattle.log_states.specs.Logs.{HasFrame, framed_of, frame_in, frame_word}
 use Rattle.log_schemes.proofs.Public.{contains_none, contains_cases, contains_first, contains_later}
 use Rattle.log_states.proofs.Heads.{no_head, not_done, same_address, same_rest}
-use Rattle.log_states.proofs.Numbers.{bank_line, bank_line_exists, slot_in_line, point_line, point_line_exists}
-use Rattle.log_states.proofs.UnstoredLogStays.{bank_below, of_slot, of_point}
+use Rattle.log_states.proofs.Numbers.{bank_line, bank_line_exists, slot_in_line, point_line, point_line_exists, frame_line, frame_line_exists, word_in_line}
+use Rattle.log_states.proofs.UnstoredLogStays.{bank_below, of_frame, of_slot, of_point}
 
 -- ---- A clean
 
@@ -67,23 +68,78 @@ module _ {log : Log} {thread : ℕ} {old new : Record} {m : LogConfig} (l : LogI
       (c.stays (bank_word log thread (bank_of new.point) slot) (last_position (slot_in log n.words thread new slot))
       (cleaned_words (λ ws. PersistsThrough ws m.queue (bank_word log thread (bank_of new.point) slot) (last_position (slot_in log ws thread new slot))) h))
 
-  cleans : (slots lines : List ℕ) → IsWriting log thread new slots lines m → IsRecorded log thread old m.words →
+  -- a slot that was reached, and a word of the frame
+  reached_slot : (line : ℕ) (slot : ℕ) → IsCleaned n.words m.queue n.queue line → IsComing log thread new [] [] m slot → IsComing log thread new [] [] n slot
+  reached_slot line slot c (ToStore h) = absurd (contains_none slot h)
+  reached_slot line slot c (ToClean live h) = absurd (contains_none (slot / 8) h)
+  reached_slot line slot c (Queued live h) =
+      Queued (cleaned_words (λ ws. live_value (slot_in log ws thread new slot) ≡ value_of log new slot) live)
+      (c.stays (bank_word log thread (bank_of new.point) slot) (last_position (slot_in log n.words thread new slot))
+      (cleaned_words (λ ws. PersistsThrough ws m.queue (bank_word log thread (bank_of new.point) slot) (last_position (slot_in log ws thread new slot))) h))
+
+  module _ (word : ℕ) where
+    live_stays : live_value (frame_in log m.words thread word) ≡ new.frame word → live_value (frame_in log n.words thread word) ≡ new.frame word
+    live_stays live = cleaned_words (λ ws. live_value (frame_in log ws thread word) ≡ new.frame word) live
+
+    -- what was queued
+    still_queued : (line : ℕ) (framing : List ℕ) → IsCleaned n.words m.queue n.queue line → live_value (frame_in log m.words thread word) ≡ new.frame word →
+        PersistsThrough m.words m.queue (frame_word log thread word) (last_position (frame_in log m.words thread word)) →
+        IsFlushing log thread new framing n word
+    still_queued line framing c live h =
+        FrameQueued (live_stays live)
+        (c.stays (frame_word log thread word) (last_position (frame_in log n.words thread word))
+        (cleaned_words (λ ws. PersistsThrough ws m.queue (frame_word log thread word) (last_position (frame_in log ws thread word))) h))
+
+    -- a line of the bank is cleaned, or one of the frame
+    other_flushing : (line : ℕ) (framing : List ℕ) → IsCleaned n.words m.queue n.queue line → IsFlushing log thread new framing m word →
+        IsFlushing log thread new framing n word
+    other_flushing line framing c (FrameToClean live h) = FrameToClean (live_stays live) h
+    other_flushing line framing c (FrameQueued live h) = still_queued line framing c live h
+
+    cleaned_flushing : (line : ℕ) (framing : List ℕ) → IsCleaned n.words m.queue n.queue (frame_line log thread line) →
+        IsFlushing log thread new (line ∷ framing) m word → IsFlushing log thread new framing n word
+    cleaned_flushing line framing c (FrameToClean live h) = elim (contains_cases line framing (word / 8) h) [
+      | inl is ↦ FrameQueued (live_stays live) (subst (λ (j : ℕ). PersistsThrough n.words n.queue j (last_position (word_at n.words j)))
+          (word_in_line log thread word line is) (c.here (word % 8) (omega arith)))
+      | inr more ↦ FrameToClean (live_stays live) more
+    ]
+    cleaned_flushing line framing c (FrameQueued live h) = still_queued (frame_line log thread line) framing c live h
+
+  cleans : (slots lines framing : List ℕ) → IsWriting log thread new slots lines framing m → IsRecorded log thread old m.words →
       AreEntries n.words n.queue × Stage log thread old new n
-  cleans (slot ∷ slots) lines w h = absurd (no_head _ _ _ _ (sym does ∙ w.rest) (omega arith))
-  cleans [] [] w h = absurd (no_head _ _ _ _ (sym does ∙ w.rest) (omega arith))
-  cleans [] (line ∷ lines) w h =
+  cleans (slot ∷ slots) lines framing w h = absurd (no_head _ _ _ _ (sym does ∙ w.rest) (omega arith))
+  cleans [] [] [] w h = absurd (no_head _ _ _ _ (sym does ∙ w.rest) (omega arith))
+  cleans [] [] (line ∷ framing) w h =
+      let e = sym does ∙ w.rest in
+      let is = w.frame_lines_exist line (contains_first line framing) in
+      let exists : 8 * frame_line log thread line + 8 ≤ length m.words = omega (arith, has.exists, frame_line_exists log thread line is) in
+      let c = does_clean (frame_at log thread (8 * line)) (frame_line log thread line) (same_address _ _ _ _ e) refl exists in (
+        c.entries,
+        Writing [] [] framing (record {
+          rest = same_rest _ _ _ _ e;
+          own = w.own;
+          after = w.after;
+          exist = w.exist;
+          each = λ slot d. reached_slot (frame_line log thread line) slot c (w.each slot d);
+          frame_lines_exist = λ l d. w.frame_lines_exist l (contains_later line framing l d);
+          framed = λ word d. cleaned_flushing word line framing c (w.framed word d);
+        }) (cleaned_words (IsRecorded log thread old) h),
+      )
+  cleans [] (line ∷ lines) framing w h =
       let e = sym does ∙ w.rest in
       let bank : ℕ = bank_of new.point in
       let exists : 8 * bank_line log thread bank line + 8 ≤ length m.words =
       omega (arith, has.exists, bank_line_exists log thread bank line (bank_below new.point) (w.exist line (contains_first line lines))) in
       let c = does_clean (slot_at log thread bank (8 * line)) (bank_line log thread bank line) (same_address _ _ _ _ e) refl exists in (
         c.entries,
-        Writing [] lines (record {
+        Writing [] lines framing (record {
           rest = same_rest _ _ _ _ e;
           own = w.own;
           after = λ slot d. absurd (contains_none slot d);
           exist = λ l d. w.exist l (contains_later line lines l d);
           each = λ slot d. cleaned_slot line lines slot c (w.each slot d);
+          frame_lines_exist = w.frame_lines_exist;
+          framed = λ word d. other_flushing word (bank_line log thread bank line) framing c (w.framed word d);
         }) (cleaned_words (IsRecorded log thread old) h),
       )
 
@@ -101,8 +157,8 @@ module _ {log : Log} {thread : ℕ} {old new : Record} {m : LogConfig} (l : LogI
       )
 
   pub own_clean : Stage log thread old new m → AreEntries n.words n.queue × Stage log thread old new n
-  own_clean (Writing slots lines w h) = cleans slots lines w h
-  own_clean (Written rest h bank) = absurd (no_head _ _ _ _ (sym does ∙ rest) (omega arith))
+  own_clean (Writing slots lines framing w h) = cleans slots lines framing w h
+  own_clean (Written rest h bank frame) = absurd (no_head _ _ _ _ (sym does ∙ rest) (omega arith))
   own_clean (Pointed rest h) = point_cleaned rest h
   own_clean (PointQueued rest h r) = absurd (no_head _ _ _ _ (sym does ∙ rest) (omega arith))
   own_clean (Over rest h) = absurd (not_done _ _ (sym rest ∙ does))
@@ -133,12 +189,22 @@ module _ {log : Log} {thread : ℕ} {old new : Record} {m : LogConfig} (l : LogI
       (last_position (slot_in log m.words thread new slot))) empty
       h)
 
-  fences : (slots lines : List ℕ) → IsWriting log thread new slots lines m → IsRecorded log thread old m.words → Stage log thread old new n
-  fences (slot ∷ slots) lines w h = absurd (no_head _ _ _ _ (sym does ∙ w.rest) (omega arith))
-  fences [] (line ∷ lines) w h = absurd (no_head _ _ _ _ (sym does ∙ w.rest) (omega arith))
-  fences [] [] w h =
+  fenced_frame : (word : ℕ) → Contains (framed_of new) word → IsFlushing log thread new [] m word →
+      IsDurable (frame_in log m.words thread word) (new.frame word)
+  fenced_frame word c (FrameToClean live h) = absurd (contains_none (word / 8) h)
+  fenced_frame word c (FrameQueued live h) =
+      reached_durable m.words (frame_word log thread word) (new.frame word)
+      (of_frame log thread (λ j. IsWord (word_at m.words j)) has.each word (f.new_is.framed word c)) live
+      (subst (λ (q : List Entry). PersistsThrough m.words q (frame_word log thread word) (last_position (frame_in log m.words thread word))) empty h)
+
+  fences : (slots lines framing : List ℕ) → IsWriting log thread new slots lines framing m → IsRecorded log thread old m.words → Stage log thread old new n
+  fences (slot ∷ slots) lines framing w h = absurd (no_head _ _ _ _ (sym does ∙ w.rest) (omega arith))
+  fences [] [] (line ∷ framing) w h = absurd (no_head _ _ _ _ (sym does ∙ w.rest) (omega arith))
+  fences [] (line ∷ lines) framing w h = absurd (no_head _ _ _ _ (sym does ∙ w.rest) (omega arith))
+  fences [] [] [] w h =
       Written (same_rest _ _ _ _ (sym does ∙ w.rest)) (fenced_words (IsRecorded log thread old) h)
       (fenced_words (HasBank log thread new) (λ slot c. fenced_slot slot c (w.each slot c)))
+      (fenced_words (HasFrame log thread new) (λ word c. fenced_frame word c (w.framed word c)))
 
   point_fenced : m.rest ≡ Fences ∷ [] → IsPointed log thread old new m.words →
       PersistsThrough m.words m.queue (word_number (point_at log thread)) (last_position (point_in log m.words thread)) → Stage log thread old new n
@@ -146,11 +212,11 @@ module _ {log : Log} {thread : ℕ} {old new : Record} {m : LogConfig} (l : LogI
       let is : IsWord (point_in log m.words thread) = of_point log thread (λ j. IsWord (word_at m.words j)) has.each in
       let point : IsDurable (point_in log m.words thread) new.point = reached_durable m.words (word_number (point_at log thread)) new.point is h.last
       (subst (λ (q : List Entry). PersistsThrough m.words q (word_number (point_at log thread)) (last_position (point_in log m.words thread))) empty r) in
-      Over (same_rest _ _ _ _ (sym does ∙ rest)) (fenced_words (IsRecorded log thread new) (record { point = point; bank = h.new_bank }))
+      Over (same_rest _ _ _ _ (sym does ∙ rest)) (fenced_words (IsRecorded log thread new) (record { point = point; bank = h.new_bank; frame = h.new_frame }))
 
   pub own_fence : Stage log thread old new m → Stage log thread old new n
-  own_fence (Writing slots lines w h) = fences slots lines w h
-  own_fence (Written rest h bank) = absurd (no_head _ _ _ _ (sym does ∙ rest) (omega arith))
+  own_fence (Writing slots lines framing w h) = fences slots lines framing w h
+  own_fence (Written rest h bank frame) = absurd (no_head _ _ _ _ (sym does ∙ rest) (omega arith))
   own_fence (Pointed rest h) = absurd (no_head _ _ _ _ (sym does ∙ rest) (omega arith))
   own_fence (PointQueued rest h r) = point_fenced rest h r
   own_fence (Over rest h) = absurd (not_done _ _ (sym rest ∙ does))

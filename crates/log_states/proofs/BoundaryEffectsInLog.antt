@@ -8,18 +8,18 @@ use Rattle.log_schemes.specs.declared.log.Log.{Log}
 use Rattle.machine_events.specs.declared.event.Reply.TheVariants.{Moved, Drained}
 use Rattle.ido_base.specs.Words.{Entry}
 use Rattle.ido_base.specs.Layout.{variables_base, logs_base, aligned}
-use Rattle.log_schemes.specs.Layout.{log_lines, log_words, in_range, log_of, point_at, slot_at}
+use Rattle.log_schemes.specs.Layout.{frame_at, log_lines, log_words, in_range, log_of, point_at, slot_at}
 use Rattle.log_schemes.specs.Schemes.{bank_lines}
 use Rattle.rv64_isa.specs.Rows.{Effect, Stores, Cleans, Fences, next}
 use Rattle.machine_model.specs.Machine.{Hart, World, Outcome, access, applied, fenced, drain_one, stepped, happens, bank_of, hart_step, phase_step}
-use Rattle.log_states.specs.Logs.{Record, value_of, IsInBank}
-use Rattle.log_schemes.specs.SchemeFacts.{slot_index}
+use Rattle.log_states.specs.Logs.{Record, value_of, IsFrameWord, IsInBank}
+use Rattle.log_schemes.specs.SchemeFacts.{frame_index, slot_index}
 use Rattle.log_states.specs.Stages.{IsWriting, Stage, Writing, Written, Pointed, PointQueued, Over}
 use Rattle.log_states.specs.Machines.{is_boundary_effect, IsLogEffect, StoresWord, CleansLine, PassesFence, BoundariesStayIn, LogEffectsGo}
 use Rattle.log_schemes.proofs.Public.{contains_first}
 use Rattle.log_schemes.proofs.Public.{scheme}
 use Rattle.log_states.proofs.Heads.{head, not_done}
-use Rattle.log_states.proofs.Numbers.{line_in_bank, rows_within, some_words}
+use Rattle.log_states.proofs.Numbers.{frame_inside, line_in_bank, rows_within, some_words}
 use Rattle.log_states.proofs.UnstoredLogStays.{slot_in_bank, bank_below}
 use Rattle.log_states.proofs.Machines.{executes_effect, runs_step}
 
@@ -56,21 +56,28 @@ cleans_line log thread r line c = (
   refl,
 )
 
+cleans_frame : (log : Log) (thread line : ℕ) → IsFrameWord log (8 * line) → Does log thread (Cleans (frame_at log thread (8 * line)))
+unfolding Does
+cleans_frame log thread line is =
+    (CleansLine (frame_index (8 * line)) (frame_inside log (8 * line) is) (ap Cleans ((scheme log).frame.address thread (8 * line))), refl)
+
 pub boundaries_stay_in : BoundariesStayIn
 unfolding Does
 boundaries_stay_in log thread old new m effect later l rest = by l.stage
   where
-    writes : (slots lines : List ℕ) → IsWriting log thread new slots lines m → Does log thread effect
-    writes [] [] w = does log thread Fences effect later _ (sym w.rest ∙ rest) (PassesFence refl, refl)
-    writes [] (line ∷ lines) w =
+    writes : (slots lines framing : List ℕ) → IsWriting log thread new slots lines framing m → Does log thread effect
+    writes [] [] (line ∷ framing) w =
+        does log thread _ effect later _ (sym w.rest ∙ rest) (cleans_frame log thread line (w.frame_lines_exist line (contains_first line framing)))
+    writes [] [] [] w = does log thread Fences effect later _ (sym w.rest ∙ rest) (PassesFence refl, refl)
+    writes [] (line ∷ lines) framing w =
         does log thread _ effect later _ (sym w.rest ∙ rest) (cleans_line log thread new line (w.exist line (contains_first line lines)))
-    writes (slot ∷ slots) lines w =
+    writes (slot ∷ slots) lines framing w =
         does log thread _ effect later _ (sym w.rest ∙ rest) (stores_slot log thread new slot
         (slot_in_bank log new slot l.follows.new_is (w.own slot (contains_first slot slots))))
 
     by : Stage log thread old new m → Does log thread effect
-    by (Writing slots lines w h) = writes slots lines w
-    by (Written e h bank) =
+    by (Writing slots lines framing w h) = writes slots lines framing w
+    by (Written e h bank frame) =
         does log thread (Stores (point_at log thread) 8 new.point) effect later _ (sym e ∙ rest)
         (StoresWord 0 new.point (some_words log) (ap (λ (a : ℕ). Stores a 8 new.point) (point_address log thread)), refl)
     by (Pointed e h) = does log thread (Cleans (point_at log thread)) effect later _ (sym e ∙ rest)

@@ -1,9 +1,9 @@
 -- A boundary has two fences.
 use Rattle.std.proofs.Common.{◌≡◌, ℕ, ◌+◌, ◌*◌, ◌%◌, ◌^◌, map, List, [], ◌∷◌, ◌++◌, refl, arith, ◌∙◌}
 use Rattle.std.proofs.lemmas.Bool.{cond_both}
-use Rattle.boundary_code.specs.Boundaries.{Boundary, slots_kept, lines_in_use, bank_effects, commit_effects, is_empty, other_side}
-use Rattle.log_schemes.specs.Layout.{slot_at}
-use Rattle.log_schemes.specs.Schemes.{kept_locks, register_slot}
+use Rattle.boundary_code.specs.Boundaries.{Boundary, frame_lines, pairs_kept, slots_kept, lines_in_use, bank_effects, commit_effects, is_empty, other_side}
+use Rattle.log_schemes.specs.Layout.{frame_at, slot_at}
+use Rattle.log_schemes.specs.Schemes.{register_slot}
 use Rattle.rv64_isa.specs.Rows.{Effect, Stores, Cleans, read}
 use Rattle.log_states.specs.Stages.{fences_ahead}
 use Rattle.log_states.specs.Laws.{BoundariesFence}
@@ -18,15 +18,17 @@ no_fences f none (x ∷ xs) = let rest = no_fences f none xs in omega (arith, re
 
 bank_fences : (b : Boundary) (bank : ℕ) (x : List ℕ) → fences_ahead (bank_effects b bank x) ≡ 0
 bank_fences b bank x =
-    let lines : List ℕ = lines_in_use b.log (slots_kept b.log b.locks b.live) in
-    let locks : List Effect = map (λ (kept : ℕ × ℕ). Stores (slot_at b.log b.thread bank kept.0) 8 kept.1) (kept_locks b.log b.locks) in
+    let lines : List ℕ = lines_in_use b.log (slots_kept b.log b.locks b.written b.live) in
+    let pairs : List Effect = map (λ (kept : ℕ × ℕ). Stores (slot_at b.log b.thread bank kept.0) 8 kept.1) (pairs_kept b.log b.locks b.written) in
     let stores : List Effect = map (λ r. Stores (slot_at b.log b.thread bank (register_slot b.log r)) 8 (read x r)) b.live in
     let cleans : List Effect = map (λ line. Cleans (slot_at b.log b.thread bank (8 * line))) lines in
-    let l : fences_ahead locks ≡ 0 =
-    no_fences (λ (kept : ℕ × ℕ). Stores (slot_at b.log b.thread bank kept.0) 8 kept.1) (λ kept. refl) (kept_locks b.log b.locks) in
+    let framing : List Effect = map (λ line. Cleans (frame_at b.log b.thread (8 * line))) (frame_lines b.log b.opens) in
+    let l : fences_ahead pairs ≡ 0 =
+    no_fences (λ (kept : ℕ × ℕ). Stores (slot_at b.log b.thread bank kept.0) 8 kept.1) (λ kept. refl) (pairs_kept b.log b.locks b.written) in
     let s : fences_ahead stores ≡ 0 = no_fences (λ r. Stores (slot_at b.log b.thread bank (register_slot b.log r)) 8 (read x r)) (λ r. refl) b.live in
     let c : fences_ahead cleans ≡ 0 = no_fences (λ line. Cleans (slot_at b.log b.thread bank (8 * line))) (λ line. refl) lines in
-    fences_append (locks ++ stores) cleans ∙ omega (arith, fences_append locks stores, l, s, c)
+    let f : fences_ahead framing ≡ 0 = no_fences (λ line. Cleans (frame_at b.log b.thread (8 * line))) (λ line. refl) (frame_lines b.log b.opens) in
+    fences_append (pairs ++ stores ++ cleans) framing ∙ omega (arith, fences_append (pairs ++ stores) cleans, fences_append pairs stores, l, s, c, f)
 
 pub boundaries_fence : BoundariesFence
 boundaries_fence b side resume x =

@@ -4,7 +4,7 @@ use Rattle.std.specs.List.{Contains}
 use Rattle.log_schemes.specs.declared.log.Log.{Log}
 use Rattle.ido_base.specs.Layout.{byte_number, word_number}
 use Rattle.machine_model.specs.Machine.{bank_of}
-use Rattle.log_states.specs.Logs.{Record, slots_of, bank_word, point_in, HasBank, IsRecorded}
+use Rattle.log_states.specs.Logs.{Record, slots_of, bank_word, point_in, HasBank, HasFrame, IsRecorded}
 use Rattle.log_states.specs.Stages.{LogConfig, IsWriting, Stage, Writing, Written, Pointed, PointQueued, Over, left_by_crash}
 use Rattle.log_states.specs.LogFacts.{PointsFindBank, IsNamed, BankKept, LocksAreLeft, LogFacts}
 use Rattle.log_schemes.proofs.Public.{contains_first}
@@ -20,15 +20,16 @@ use Rattle.log_states.proofs.RecoveredRecords.{left_is_record, left_locks, recor
 points_find_bank : PointsFindBank
 points_find_bank log thread old new m point later l does = by l.stage
   where
-    none_first : (slots lines : List ℕ) → IsWriting log thread new slots lines m → ⊥
-    none_first [] [] w = no_head _ _ _ _ (sym does ∙ w.rest) (omega arith)
-    none_first [] (line ∷ lines) w = no_head _ _ _ _ (sym does ∙ w.rest) (omega arith)
-    none_first (slot ∷ slots) lines w =
+    none_first : (slots lines framing : List ℕ) → IsWriting log thread new slots lines framing m → ⊥
+    none_first [] [] [] w = no_head _ _ _ _ (sym does ∙ w.rest) (omega arith)
+    none_first [] [] (line ∷ framing) w = no_head _ _ _ _ (sym does ∙ w.rest) (omega arith)
+    none_first [] (line ∷ lines) framing w = no_head _ _ _ _ (sym does ∙ w.rest) (omega arith)
+    none_first (slot ∷ slots) lines framing w =
         slot_not_point log thread (bank_of new.point) slot (sym (ap word_number (same_address _ _ _ _ (sym does ∙ w.rest))))
 
-    by : Stage log thread old new m → (point ≡ new.point) × HasBank log thread new m.words
-    by (Writing slots lines w h) = absurd (none_first slots lines w)
-    by (Written rest h bank) = (same_value _ _ _ _ (sym does ∙ rest), bank)
+    by : Stage log thread old new m → (point ≡ new.point) × HasBank log thread new m.words × HasFrame log thread new m.words
+    by (Writing slots lines framing w h) = absurd (none_first slots lines framing w)
+    by (Written rest h bank frame) = (same_value _ _ _ _ (sym does ∙ rest), bank, frame)
     by (Pointed rest h) = absurd (no_head _ _ _ _ (sym does ∙ rest) (omega arith))
     by (PointQueued rest h r) = absurd (no_head _ _ _ _ (sym does ∙ rest) (omega arith))
     by (Over rest h) = absurd (not_done _ _ (sym rest ∙ does))
@@ -43,11 +44,12 @@ named_is log thread r m point h (inr durable) = durable ∙ durable_is (point_in
 bank_kept : BankKept
 bank_kept log thread old new m address bytes value later l does point named some slot inside = by l.stage
   where
-    writes : (slots lines : List ℕ) → IsWriting log thread new slots lines m → IsRecorded log thread old m.words →
+    writes : (slots lines framing : List ℕ) → IsWriting log thread new slots lines framing m → IsRecorded log thread old m.words →
         byte_number address / 8 ≢ bank_word log thread (bank_of point) slot
-    writes [] [] w h same = no_head _ _ _ _ (sym does ∙ w.rest) (omega arith)
-    writes [] (line ∷ lines) w h same = no_head _ _ _ _ (sym does ∙ w.rest) (omega arith)
-    writes (first ∷ slots) lines w h same =
+    writes [] [] [] w h same = no_head _ _ _ _ (sym does ∙ w.rest) (omega arith)
+    writes [] [] (line ∷ framing) w h same = no_head _ _ _ _ (sym does ∙ w.rest) (omega arith)
+    writes [] (line ∷ lines) framing w h same = no_head _ _ _ _ (sym does ∙ w.rest) (omega arith)
+    writes (first ∷ slots) lines framing w h same =
         let c : Contains (slots_of log new) first = w.own first (contains_first first slots) in
         let is : point ≡ old.point = named_is log thread old m point h named in
         let at : byte_number address / 8 ≡ bank_word log thread (bank_of new.point) first =
@@ -58,8 +60,8 @@ bank_kept log thread old new m address bytes value later l does point named some
         l.follows.apart (λ none. some (is ∙ none)) (has_point log new first c) (ap bank_of (sym is) ∙ bank)
 
     by : Stage log thread old new m → byte_number address / 8 ≢ bank_word log thread (bank_of point) slot
-    by (Writing slots lines w h) = writes slots lines w h
-    by (Written rest h bank) = λ same.
+    by (Writing slots lines framing w h) = writes slots lines framing w h
+    by (Written rest h bank frame) = λ same.
         slot_not_point log thread (bank_of point) slot (sym same ∙ ap (λ (a : ℕ). byte_number a / 8) (same_address _ _ _ _ (sym does ∙ rest)))
     by (Pointed rest h) = absurd (no_head _ _ _ _ (sym does ∙ rest) (omega arith))
     by (PointQueued rest h r) = absurd (no_head _ _ _ _ (sym does ∙ rest) (omega arith))

@@ -26,6 +26,14 @@ address_of (Cleans address) = address
 address_of Fences = 0
 address_of Calls = 0
 
+abbrev pub bytes_of : Effect → ℕ
+bytes_of (Continues registers pc) = 0
+bytes_of (Loads address bytes signed register) = bytes
+bytes_of (Stores address bytes value) = bytes
+bytes_of (Cleans address) = 0
+bytes_of Fences = 0
+bytes_of Calls = 0
+
 abbrev pub stored_by : Effect → ℕ
 stored_by (Continues registers pc) = 0
 stored_by (Loads address bytes signed register) = 0

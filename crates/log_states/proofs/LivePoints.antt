@@ -27,8 +27,8 @@ module _ (log : Log) (thread : ℕ) (old new : Record) (m : LogConfig) (l : LogI
 
   by_stage : Stage log thread old new m → Is
   unfolding Is
-  by_stage (Writing slots lines writing h) = from_old h
-  by_stage (Written rest h bank) = from_old h
+  by_stage (Writing slots lines framing writing h) = from_old h
+  by_stage (Written rest h bank frame) = from_old h
   by_stage (Pointed rest h) = inl h.last
   by_stage (PointQueued rest h r) = inl h.last
   by_stage (Over rest h) = inl h.point.live

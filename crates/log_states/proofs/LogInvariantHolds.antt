@@ -19,7 +19,8 @@ use Rattle.machine_model.specs.Machine.{fresh_hart, phase_after_crash, durable_p
 use Rattle.machine_model.specs.Frames.{IsWellFormedWorld}
 use Rattle.machine_model.specs.Schedule.{has_moved, effect_at}
 use Rattle.operator_code.specs.StraightLineCode.{seen}
-use Rattle.log_states.specs.Logs.{Record, nothing_recorded, IsRecord, HasLog, IsRecorded}
+use Rattle.std.proofs.lemmas.List.Elements.{Contains-append_left, Contains-append_right}
+use Rattle.log_states.specs.Logs.{Record, nothing_recorded, AreNamed, IsRecord, HasLog, IsRecorded, framed_of}
 use Rattle.log_states.specs.Stages.{LogConfig, LogIs, is_committed, left_by_crash}
 use Rattle.log_states.specs.Machines.{config_of, MovesTo, IsNext, IsElsewhere}
 use Rattle.log_states.specs.LogInvariant.{LogInv, passage, Advances, Completes, WritesBack, StartsStanding, BeginsStanding, OwnStepsKeep, StepsKeep}
@@ -31,34 +32,48 @@ use Rattle.log_states.proofs.RecoveredRecords.{starts_empty}
 use Rattle.log_states.proofs.Machines.{own_steps_move, steps_move, evictions_move, crashes_crash, executes_effect, runs_step, some_same}
 use Rattle.log_states.proofs.BoundaryEffectsInLog.{boundaries_stay_in, log_effects_go, there_below}
 
+-- what either record counts on
+both : (old new : Record) → List ℕ
+both old new = framed_of old ++ framed_of new
+
+names_old : (old new : Record) → AreNamed (both old new) old
+unfolding both
+names_old old new word c = Contains-append_left (framed_of old) (framed_of new) word c
+
+names_new : (old new : Record) → AreNamed (both old new) new
+unfolding both
+names_new old new word c = Contains-append_right (framed_of old) (framed_of new) word c
+
 -- what moves the log keeps it on its way
-moved_stands : (thread : ℕ) (old new : Record) (w : World) (hart : Hart) (rest : List Effect) (after : World) (rest_after : List Effect) →
-    LogIs w.log thread old new (config_of w hart rest) → MovesTo thread w hart rest after rest_after → LogInv thread old new after rest_after
-moved_stands thread old new w hart rest after rest_after l m = record {
+moved_stands : (thread : ℕ) (named : List ℕ) (old new : Record) (w : World) (hart : Hart) (rest : List Effect) (after : World) (rest_after : List Effect) →
+    AreNamed named old → AreNamed named new →
+    LogIs w.log thread old new (config_of w hart rest) → MovesTo thread named w hart rest after rest_after → LogInv thread old new after rest_after
+moved_stands thread named old new w hart rest after rest_after names also l m = record {
   hart = m.next;
   here = m.there;
   log = subst (λ (log : Log). LogIs log thread old new (config_of after m.next rest_after)) (sym m.log)
-      (keeps w.log thread old new (config_of w hart rest) (config_of after m.next rest_after) l m.moves);
+      (keeps w.log thread named old new (config_of w hart rest) (config_of after m.next rest_after) names also l m.moves);
 }
 
 pub steps_keep : StepsKeep
-steps_keep program g thread old new w rest sound s elsewhere =
-    moved_stands thread old new w s.hart rest (after_event program w (Step g)) rest s.log (steps_move program w g thread s.hart rest sound s.here elsewhere)
+steps_keep program named g thread old new w rest sound s names also elsewhere =
+    moved_stands thread named old new w s.hart rest (after_event program w (Step g)) rest names also s.log
+    (steps_move program named w g thread s.hart rest sound s.here elsewhere)
 
 pub evictions_keep : EvictionsKeep
 evictions_keep program line mask thread old new w rest s =
-    moved_stands thread old new w s.hart rest (after_event program w (Evict line mask)) rest s.log
-    (evictions_move program w line mask thread s.hart rest s.here)
+    moved_stands thread (both old new) old new w s.hart rest (after_event program w (Evict line mask)) rest (names_old old new) (names_new old new) s.log
+    (evictions_move program (both old new) w line mask thread s.hart rest s.here)
 
 pub begins_standing : BeginsStanding
-begins_standing b older old side resume x w same s at r = record {
+begins_standing b framed frame older old side resume x w same s at r comes = record {
   hart = s.hart;
   here = s.here;
-  log = subst (λ (log : Log). LogIs log b.thread old (recorded_by b side resume x) (config_of w s.hart (boundary_effects b side resume x))) same
-      (begins b old side resume x w.words s.hart.queue (subst (λ (log : Log). HasLog log b.thread w.words) (sym same) s.log.log) s.log.queue
+  log = subst (λ (log : Log). LogIs log b.thread old (recorded_by b framed frame side resume x) (config_of w s.hart (boundary_effects b side resume x))) same
+      (begins b framed frame old side resume x w.words s.hart.queue (subst (λ (log : Log). HasLog log b.thread w.words) (sym same) s.log.log) s.log.queue
       (subst (λ (log : Log). IsRecord log old) (sym same) s.log.follows.new_is)
       (subst (λ (log : Log). IsRecorded log b.thread old w.words) (sym same) (ends w.log b.thread older old (config_of w s.hart []) s.log refl))
-      (subst (λ (log : Log). IsAtRecord log old side x) (sym same) at) r);
+      (subst (λ (log : Log). IsAtRecord log old side x) (sym same) at) r comes);
 }
 
 -- ---- An instruction of a boundary
@@ -69,10 +84,10 @@ module _ {program : List (List Slot)} {thread : ℕ} {w : World} {hart : Hart} {
   makes : LogIs w.log thread old new (config_of w hart (effect ∷ later)) → Advances program (passage thread old new) w (effect ∷ []) later
   makes l =
       let own = boundaries_stay_in w.log thread old new (config_of w hart (effect ∷ later)) effect later l refl in
-      let to = own_steps_move program w thread hart effect later is own.1 in
+      let to = own_steps_move program (both old new) w thread hart effect later is own.1 in
       let stands : LogInv thread old new (after_event program w (Step thread))
       (if has_moved (reply_to program w (Step thread)) then later else effect ∷ later) =
-      moved_stands thread old new w hart (effect ∷ later) (after_event program w (Step thread)) _ l to in
+      moved_stands thread (both old new) old new w hart (effect ∷ later) (after_event program w (Step thread)) _ (names_old old new) (names_new old new) l to in
       elim (log_effects_go program w thread hart effect is own.0) [
         | inl moved ↦ Completes moved (subst (λ r. LogInv thread old new (after_event program w (Step thread))
             (if has_moved r then later else effect ∷ later)) moved stands)
@@ -90,7 +105,7 @@ module _ {program : List (List Slot)} {thread : ℕ} {w : World} {hart : Hart} {
       let phased : (phase_step program w thread hart hart.phase).1 ≡ Moved =
       runs_step program thread w hart effect (λ o. o.1 ≡ Moved) hart.phase is.runs replied in
       Completes (subst (λ (x : Option Hart). (stepped program w thread x).1 ≡ Moved) (sym is.here) phased)
-      (steps_keep program thread thread old new w later sound s elsewhere)
+      (steps_keep program (both old new) thread thread old new w later sound s (names_old old new) (names_new old new) elsewhere)
     where
       is_going : Effect → Type 0
       is_going (Continues r p) = Unit {0}
@@ -100,8 +115,8 @@ module _ {program : List (List Slot)} {thread : ℕ} {w : World} {hart : Hart} {
       is_going Fences = ⊥
       is_going Calls = ⊥
 
-      elsewhere : IsElsewhere program w thread thread
-      elsewhere other address bytes value n i below =
+      elsewhere : IsElsewhere program w (both old new) thread thread
+      elsewhere other address bytes value n i below meets =
           let one : hart ≡ other = some_same hart other (sym is.here ∙ n.here) in
           let same : Continues registers to ≡ Stores address bytes value =
           sym goes ∙ some_same effect (Stores address bytes value) (sym is.is ∙ ap (λ (x : Hart). effect_at program thread x) one ∙ n.is) in

@@ -8,10 +8,11 @@ use Rattle.log_states.proofs.KeptRecords.{nothing_is_record}
 
 -- with no boundary under way the log has its record
 over_has : (log : Log) (thread : ℕ) (old new : Record) (m : LogConfig) → m.rest ≡ [] → Stage log thread old new m → IsRecorded log thread new m.words
-over_has log thread old new m none (Writing [] [] writing recorded) = absurd (let e = sym writing.rest ∙ none in cc)
-over_has log thread old new m none (Writing [] (line ∷ lines) writing recorded) = absurd (let e = sym writing.rest ∙ none in cc)
-over_has log thread old new m none (Writing (slot ∷ slots) lines writing recorded) = absurd (let e = sym writing.rest ∙ none in cc)
-over_has log thread old new m none (Written rest recorded bank) = absurd (let e = sym rest ∙ none in cc)
+over_has log thread old new m none (Writing [] [] [] writing recorded) = absurd (let e = sym writing.rest ∙ none in cc)
+over_has log thread old new m none (Writing [] [] (line ∷ framing) writing recorded) = absurd (let e = sym writing.rest ∙ none in cc)
+over_has log thread old new m none (Writing [] (line ∷ lines) framing writing recorded) = absurd (let e = sym writing.rest ∙ none in cc)
+over_has log thread old new m none (Writing (slot ∷ slots) lines framing writing recorded) = absurd (let e = sym writing.rest ∙ none in cc)
+over_has log thread old new m none (Written rest recorded bank frame) = absurd (let e = sym rest ∙ none in cc)
 over_has log thread old new m none (Pointed rest pointed) = absurd (let e = sym rest ∙ none in cc)
 over_has log thread old new m none (PointQueued rest pointed reaches) = absurd (let e = sym rest ∙ none in cc)
 over_has log thread old new m none (Over rest recorded) = recorded
@@ -26,5 +27,6 @@ nothing_is log thread old new m none point is = record {
   stage = Over none (record {
     point = subst (λ (p : ℕ). IsDurable (point_in log m.words thread) p) point (over_has log thread old new m none is.stage).point;
     bank = λ slot own. absurd (contains_none slot own);
+    frame = λ word own. absurd (contains_none word own);
   });
 }

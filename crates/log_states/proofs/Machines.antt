@@ -1,5 +1,5 @@
 -- Events of the machine as moves of a log.
-use Rattle.std.proofs.Common.{◌≡◌, ◌≢◌, inl, inr, ℕ, ◌/◌, ◌<◌, List, [], ◌∷◌, ◌++◌, length, map, refl, ap, sym, ◌∙◌, subst, set, true, Option, Some, None}
+use Rattle.std.proofs.Common.{◌≡◌, ◌≢◌, inl, inr, ℕ, ◌/◌, List, [], ◌∷◌, ◌++◌, length, map, refl, ap, sym, ◌∙◌, subst, set, true, Option, Some, None}
 use Rattle.std.specs.Prelude.{slice_get, nat_lt, ◌==◌, if◌then◌else◌}
 use Rattle.std.proofs.lemmas.Bool.{cases_eq, cond_both, eqb-true, true≢false}
 use Rattle.std.proofs.lemmas.List.{append-nil}
@@ -9,7 +9,7 @@ use Rattle.machine_events.specs.declared.event.Reply.TheVariants.{Moved, Waits}
 use Rattle.ido_base.specs.Words.{Word, Entry, word_of, word_at, entry_of, stored, drained, after_crash, durable_value}
 use Rattle.ido_base.specs.Growth.{AreChanged, AreEntries, IsPersisted}
 use Rattle.ido_base.specs.Layout.{aligned, byte_number}
-use Rattle.log_schemes.specs.Layout.{log_words, in_range}
+use Rattle.log_schemes.specs.Layout.{in_range}
 use Rattle.ido_base.specs.Locks.{is_held_by, least_held, least_missing}
 use Rattle.ido_base.proofs.Public.{changed_refl, changed_by_persisted, evictions_raise, write_backs_raise, persisted_refl}
 use Rattle.rv64_isa.specs.declared.object.Slot.{Slot}
@@ -27,6 +27,7 @@ use Rattle.machine_model.proofs.Public.{get-set_same, get-set_other, steps_touch
 use Rattle.log_states.specs.Logs.{log_word, IsUnstored}
 use Rattle.log_states.specs.Stages.{Moves, Stored, Cleaned, Fenced, Drained, Elsewhere}
 use Rattle.log_states.specs.Machines.{config_of, MovesTo, is_boundary_effect, IsElsewhere, OwnStepsMove, StepsMove, EvictionsMove, CrashesCrash}
+use Rattle.log_states.specs.Laws.{StoresBeside}
 use Rattle.log_states.proofs.EventsKeepLog.{stores_elsewhere}
 
 pub none_some : {A : Type 0} (x : A) → ◌≡◌ {A = Option A} None (Some x) → ⊥
@@ -44,31 +45,32 @@ some_same {A} x y e = ap (λ (o : Option A). or_else o) e
     or_else (Some z) = z
 
 -- nothing has changed for the log
-pub no_move : (h : ℕ) (w : World) (hart : Hart) (rest : List Effect) (after : World) (further : Hart) → slice_get after.harts h ≡ Some further →
+pub no_move : (h : ℕ) (named : List ℕ) (w : World) (hart : Hart) (rest : List Effect) (after : World) (further : Hart) →
+    slice_get after.harts h ≡ Some further →
     after.words ≡ w.words → after.log ≡ w.log → further.queue ≡ hart.queue →
-    MovesTo h w hart rest after rest
-no_move h w hart rest after further there words log queue = record {
+    MovesTo h named w hart rest after rest
+no_move h named w hart rest after further there words log queue = record {
   next = further;
   there = there;
   log = log;
   moves = Elsewhere [] refl (subst (λ (ws : List Word). AreChanged w.words ws) (sym words) (changed_refl w.words))
-      (λ i below. subst (λ (ws : List Word). IsPersisted (word_at w.words (log_word w.log h i)) (word_at ws (log_word w.log h i))) (sym words)
-      (persisted_refl (word_at w.words (log_word w.log h i))))
+      (λ i below. inl (subst (λ (ws : List Word). IsPersisted (word_at w.words (log_word w.log h i)) (word_at ws (log_word w.log h i))) (sym words)
+      (persisted_refl (word_at w.words (log_word w.log h i)))))
       (queue ∙ sym (append-nil hart.queue)) tt;
 }
 
 -- ---- The boundary's next effect
 
-module _ (h : ℕ) (w : World) (hart : Hart) (here : slice_get w.harts h ≡ Some hart) (effect : Effect) (later : List Effect) where
+module _ (h : ℕ) (named : List ℕ) (w : World) (hart : Hart) (here : slice_get w.harts h ≡ Some hart) (effect : Effect) (later : List Effect) where
   Own : Outcome → Type 0
-  Own o = MovesTo h w hart (effect ∷ later) o.0 (if has_moved o.1 then later else effect ∷ later)
+  Own o = MovesTo h named w hart (effect ∷ later) o.0 (if has_moved o.1 then later else effect ∷ later)
 
   set_there : (ws : List Word) (further : Hart) → slice_get (with_hart (record w { words = ws }) h further).harts h ≡ Some further
   set_there ws further = get-set_same w.harts h further hart here
 
   own_drain : (queue : List Entry) → hart.queue ≡ queue → Own (drain_one w h hart queue)
   unfolding Own
-  own_drain [] e = no_move h w hart (effect ∷ later) w hart here refl refl refl
+  own_drain [] e = no_move h named w hart (effect ∷ later) w hart here refl refl refl
   own_drain (e ∷ es) same = record {
     next = record hart { queue = es };
     there = set_there (drained w.words e) (record hart { queue = es });
@@ -80,8 +82,8 @@ module _ (h : ℕ) (w : World) (hart : Hart) (here : slice_get w.harts h ≡ Som
   unfolding Own
   own_access address bytes o own =
       cond_both (in_range w.log (length w.harts) address bytes) _ _ Own (λ _. cond_both (aligned address bytes) _ _ Own (λ _. own)
-      (λ _. no_move h w hart (effect ∷ later) w hart here refl refl refl))
-      (λ _. no_move h w hart (effect ∷ later) w hart here refl refl refl)
+      (λ _. no_move h named w hart (effect ∷ later) w hart here refl refl refl))
+      (λ _. no_move h named w hart (effect ∷ later) w hart here refl refl refl)
 
   own_applied : is_boundary_effect effect ≡ true → (e : Effect) → e ≡ effect → Own (applied w h hart e)
   unfolding Own
@@ -119,13 +121,13 @@ module _ (h : ℕ) (w : World) (hart : Hart) (here : slice_get w.harts h ≡ Som
 -- ---- In recovery, a hart that is done
 
 -- whatever is a move stays one where the last release makes the hart done
-settled : (h : ℕ) (w : World) (hart : Hart) (rest further : List Effect) (v : World) → MovesTo h w hart rest v further → (g : ℕ) →
-    MovesTo h w hart rest (done_if_over w g (slice_get v.harts g) v) further
-settled h w hart rest further v m g = by (slice_get v.harts g) refl
+settled : (h : ℕ) (named : List ℕ) (w : World) (hart : Hart) (rest further : List Effect) (v : World) → MovesTo h named w hart rest v further → (g : ℕ) →
+    MovesTo h named w hart rest (done_if_over w g (slice_get v.harts g) v) further
+settled h named w hart rest further v m g = by (slice_get v.harts g) refl
   where
-    by : (other : Option Hart) → slice_get v.harts g ≡ other → MovesTo h w hart rest (done_if_over w g other v) further
+    by : (other : Option Hart) → slice_get v.harts g ≡ other → MovesTo h named w hart rest (done_if_over w g other v) further
     by None e = m
-    by (Some other) e = cond_both (over_after w v g) _ _ (λ (u : World). MovesTo h w hart rest u further) (λ _. elim (cases_eq h g) [
+    by (Some other) e = cond_both (over_after w v g) _ _ (λ (u : World). MovesTo h named w hart rest u further) (λ _. elim (cases_eq h g) [
       | inl same ↦
           let there : slice_get v.harts h ≡ Some other = ap (λ (i : ℕ). slice_get v.harts i) same ∙ e in
           let is : m.next ≡ other = some_same m.next other (sym m.there ∙ there) in
@@ -134,7 +136,7 @@ settled h w hart rest further v m g = by (slice_get v.harts g) refl
             there = ap (λ (i : ℕ). slice_get (set v.harts g (record other { phase = Done })) i) same
                 ∙ get-set_same v.harts g (record other { phase = Done }) other e;
             log = m.log;
-            moves = subst (λ (x : Hart). Moves w.log h (config_of w hart rest) (record { words = v.words; queue = x.queue; rest = further })) is m.moves;
+            moves = subst (λ (x : Hart). Moves w.log h named (config_of w hart rest) (record { words = v.words; queue = x.queue; rest = further })) is m.moves;
           }
       | inr ne ↦ record { next = m.next; there = get-set_other v.harts g h (record other { phase = Done }) ne ∙ m.there; log = m.log; moves = m.moves }
     ]) (λ _. m)
@@ -168,13 +170,15 @@ module _ (program : List (List Slot)) (h : ℕ) (w : World) (hart : Hart) (effec
 
 pub own_steps_move : OwnStepsMove
 unfolding happens Own
-own_steps_move program w h hart effect later next own =
-    let p : Own h w hart next.here effect later (hart_step program w h hart) =
-    executes_effect program h w hart effect (Own h w hart next.here effect later) next.is (own_applied h w hart next.here effect later own effect refl) in
-    let q : Own h w hart next.here effect later (run_step program w h hart) = settled h w hart (effect ∷ later) _ (hart_step program w h hart).0 p h in
-    let r : Own h w hart next.here effect later (phase_step program w h hart hart.phase) =
-    runs_step program h w hart effect (Own h w hart next.here effect later) hart.phase next.runs q in
-    subst (λ (x : Option Hart). Own h w hart next.here effect later (stepped program w h x)) (sym next.here) r
+own_steps_move program named w h hart effect later next own =
+    let p : Own h named w hart next.here effect later (hart_step program w h hart) =
+    executes_effect program h w hart effect (Own h named w hart next.here effect later) next.is
+    (own_applied h named w hart next.here effect later own effect refl) in
+    let q : Own h named w hart next.here effect later (run_step program w h hart) =
+    settled h named w hart (effect ∷ later) _ (hart_step program w h hart).0 p h in
+    let r : Own h named w hart next.here effect later (phase_step program w h hart hart.phase) =
+    runs_step program h w hart effect (Own h named w hart next.here effect later) hart.phase next.runs q in
+    subst (λ (x : Option Hart). Own h named w hart next.here effect later (stepped program w h x)) (sym next.here) r
 
 -- ---- A step of any hart that stores elsewhere
 
@@ -333,54 +337,57 @@ steps_work program w g hart here = subst (λ (x : Option Hart). WorksTo (effect_
 
 -- ---- What that is to a log
 
--- what a step does to a log that it doesn't store to: words are persisted
-unstored_by : (log : Log) (h : ℕ) (effect : Option Effect) (words : List Word) (queue : List Entry) (words_after : List Word) (queue_after : List Entry) →
-    Works effect words queue words_after queue_after →
-    AreEntries words queue → ((address bytes value : ℕ) → effect ≡ Some (Stores address bytes value) → (i : ℕ) → i < log_words log →
-    byte_number address / 8 ≢ log_word log h i) → IsUnstored log h words words_after
-unstored_by log h effect words queue words_after queue_after (Rests same q) entries elsewhere =
-    subst (λ (ws : List Word). IsUnstored log h words ws) (sym same) (λ i below. persisted_refl (word_at words (log_word log h i)))
-unstored_by log h effect words queue words_after queue_after (Drains entry after q) entries elsewhere =
+-- what a step does to a log that it doesn't store to, but for words of its frame that aren't named: words are persisted
+unstored_by : (log : Log) (h : ℕ) (named : List ℕ) (effect : Option Effect) (words : List Word) (queue : List Entry) (words_after : List Word)
+    (queue_after : List Entry) → Works effect words queue words_after queue_after →
+    AreEntries words queue → ((address bytes value : ℕ) → effect ≡ Some (Stores address bytes value) → StoresBeside log h named (byte_number address) bytes) →
+    IsUnstored log h named words words_after
+unstored_by log h named effect words queue words_after queue_after (Rests same q) entries elsewhere =
+    subst (λ (ws : List Word). IsUnstored log h named words ws) (sym same) (λ i below. inl (persisted_refl (word_at words (log_word log h i))))
+unstored_by log h named effect words queue words_after queue_after (Drains entry after q) entries elsewhere =
     let all : AreEntries words (entry ∷ queue_after) = subst (λ (es : List Entry). AreEntries words es) q entries in
-    subst (λ (ws : List Word). IsUnstored log h words ws) (sym after) (λ i below. (write_backs_raise words entry all.0).each (log_word log h i))
-unstored_by log h effect words queue words_after queue_after (StoresTo address bytes value is after q) entries elsewhere =
-    subst (λ (ws : List Word). IsUnstored log h words ws) (sym after) (stores_elsewhere log h (byte_number address) bytes value words
+    subst (λ (ws : List Word). IsUnstored log h named words ws) (sym after) (λ i below. inl ((write_backs_raise words entry all.0).each (log_word log h i)))
+unstored_by log h named effect words queue words_after queue_after (StoresTo address bytes value is after q) entries elsewhere =
+    subst (λ (ws : List Word). IsUnstored log h named words ws) (sym after) (stores_elsewhere log h named (byte_number address) bytes value words
     (elsewhere address bytes value is))
-unstored_by log h effect words queue words_after queue_after (CleansLine line same q) entries elsewhere =
-    subst (λ (ws : List Word). IsUnstored log h words ws) (sym same) (λ i below. persisted_refl (word_at words (log_word log h i)))
+unstored_by log h named effect words queue words_after queue_after (CleansLine line same q) entries elsewhere =
+    subst (λ (ws : List Word). IsUnstored log h named words ws) (sym same) (λ i below. inl (persisted_refl (word_at words (log_word log h i))))
 
 entries_after : (words : List Word) (queue more : List Entry) → AreEntries words (queue ++ more) → AreEntries words more
 entries_after words [] more h = h
 entries_after words (e ∷ es) more h = entries_after words es more h.1
 
--- a store elsewhere is one that its hart doesn't make to the log
-elsewhere_of : (program : List (List Slot)) (w : World) (g h : ℕ) (hart : Hart) → slice_get w.harts g ≡ Some hart → IsElsewhere program w g h →
+-- a store elsewhere is one that its hart doesn't make to the log, but for words of its frame that aren't named
+elsewhere_of : (program : List (List Slot)) (named : List ℕ) (w : World) (g h : ℕ) (hart : Hart) → slice_get w.harts g ≡ Some hart →
+    IsElsewhere program w named g h →
     (address bytes value : ℕ) →
-    effect_of program g hart ≡ Some (Stores address bytes value) → (i : ℕ) → i < log_words w.log → byte_number address / 8 ≢ log_word w.log h i
-elsewhere_of program w g h hart here elsewhere address bytes value =
+    effect_of program g hart ≡ Some (Stores address bytes value) → StoresBeside w.log h named (byte_number address) bytes
+elsewhere_of program named w g h hart here elsewhere address bytes value =
     cond_both (is_running hart.phase) (effect_at program g hart) None
-    (λ (x : Option Effect). x ≡ Some (Stores address bytes value) → (i : ℕ) → i < log_words w.log → byte_number address / 8 ≢ log_word w.log h i)
-    (λ runs is. elsewhere hart address bytes value (record { here = here; runs = runs; is = is }))
+    (λ (x : Option Effect). x ≡ Some (Stores address bytes value) → StoresBeside w.log h named (byte_number address) bytes)
+    (λ runs is i below meets.
+    let own = elsewhere hart address bytes value (record { here = here; runs = runs; is = is }) i below meets in (own.1, own.2, own.3))
     (λ _ is. absurd (none_some (Stores address bytes value) is))
 
 -- the own hart
-own_elsewhere : (program : List (List Slot)) (w : World) (h : ℕ) (hart : Hart) (rest : List Effect) → IsWellFormedWorld w → slice_get w.harts h ≡ Some hart →
-    IsElsewhere program w h h →
-    MovesTo h w hart rest (after_event program w (Step h)) rest
-own_elsewhere program w h hart rest sound here elsewhere = by (steps_work program w h hart here)
+own_elsewhere : (program : List (List Slot)) (named : List ℕ) (w : World) (h : ℕ) (hart : Hart) (rest : List Effect) → IsWellFormedWorld w →
+    slice_get w.harts h ≡ Some hart →
+    IsElsewhere program w named h h →
+    MovesTo h named w hart rest (after_event program w (Step h)) rest
+own_elsewhere program named w h hart rest sound here elsewhere = by (steps_work program w h hart here)
   where
-    by : WorksTo (effect_of program h hart) h w hart (after_event program w (Step h)) → MovesTo h w hart rest (after_event program w (Step h)) rest
+    by : WorksTo (effect_of program h hart) h w hart (after_event program w (Step h)) → MovesTo h named w hart rest (after_event program w (Step h)) rest
     by to =
         by_works to.next to.there to.works
-        (unstored_by w.log h (effect_of program h hart) w.words hart.queue (after_event program w (Step h)).words to.next.queue to.works
+        (unstored_by w.log h named (effect_of program h hart) w.words hart.queue (after_event program w (Step h)).words to.next.queue to.works
         (sound.queues h hart here)
-        (elsewhere_of program w h h hart here elsewhere))
+        (elsewhere_of program named w h h hart here elsewhere))
       where
         by_works : (x : Hart) → slice_get (after_event program w (Step h)).harts h ≡ Some x
             → Works (effect_of program h hart) w.words hart.queue (after_event program w (Step h)).words x.queue →
-            IsUnstored w.log h w.words (after_event program w (Step h)).words
-            → MovesTo h w hart rest (after_event program w (Step h)) rest
-        by_works x there (Rests words queue) unstored = no_move h w hart rest (after_event program w (Step h)) x there words to.log queue
+            IsUnstored w.log h named w.words (after_event program w (Step h)).words
+            → MovesTo h named w hart rest (after_event program w (Step h)) rest
+        by_works x there (Rests words queue) unstored = no_move h named w hart rest (after_event program w (Step h)) x there words to.log queue
         by_works x there (Drains entry words queue) unstored = record { next = x; there = there; log = to.log; moves = Drained entry refl words queue }
         by_works x there (StoresTo address bytes value is words queue) unstored = record {
           next = x;
@@ -398,16 +405,16 @@ own_elsewhere program w h hart rest sound here elsewhere = by (steps_work progra
         }
 
 -- another hart
-other_elsewhere : (program : List (List Slot)) (w : World) (g h : ℕ) (hart : Hart) (rest : List Effect) → IsWellFormedWorld w →
+other_elsewhere : (program : List (List Slot)) (named : List ℕ) (w : World) (g h : ℕ) (hart : Hart) (rest : List Effect) → IsWellFormedWorld w →
     slice_get w.harts h ≡ Some hart →
-    h ≢ g → IsElsewhere program w g h →
-    (other : Option Hart) → slice_get w.harts g ≡ other → MovesTo h w hart rest (after_event program w (Step g)) rest
+    h ≢ g → IsElsewhere program w named g h →
+    (other : Option Hart) → slice_get w.harts g ≡ other → MovesTo h named w hart rest (after_event program w (Step g)) rest
 unfolding happens
-other_elsewhere program w g h hart rest sound here ne elsewhere None none =
-    no_move h w hart rest (after_event program w (Step g)) hart ((steps_touch program w g sound).others h ne ∙ here)
+other_elsewhere program named w g h hart rest sound here ne elsewhere None none =
+    no_move h named w hart rest (after_event program w (Step g)) hart ((steps_touch program w g sound).others h ne ∙ here)
     (ap (λ (x : Option Hart). (stepped program w g x).0.words) none)
     (ap (λ (x : Option Hart). (stepped program w g x).0.log) none) refl
-other_elsewhere program w g h hart rest sound here ne elsewhere (Some other) there =
+other_elsewhere program named w g h hart rest sound here ne elsewhere (Some other) there =
     let to = steps_work program w g other there in
     let touches = steps_touch program w g sound in
     record {
@@ -415,29 +422,29 @@ other_elsewhere program w g h hart rest sound here ne elsewhere (Some other) the
       there = touches.others h ne ∙ here;
       log = touches.log;
       moves = Elsewhere [] refl touches.words
-          (unstored_by w.log h (effect_of program g other) w.words other.queue (after_event program w (Step g)).words to.next.queue to.works
+          (unstored_by w.log h named (effect_of program g other) w.words other.queue (after_event program w (Step g)).words to.next.queue to.works
           (sound.queues g other there)
-          (elsewhere_of program w g h other there elsewhere)) (sym (append-nil hart.queue)) tt;
+          (elsewhere_of program named w g h other there elsewhere)) (sym (append-nil hart.queue)) tt;
     }
 
 pub steps_move : StepsMove
-steps_move program w g h hart rest sound here elsewhere = elim (cases_eq h g) [
-  | inl same ↦ subst (λ (i : ℕ). IsElsewhere program w i h → MovesTo h w hart rest (after_event program w (Step i)) rest) same
-      (own_elsewhere program w h hart rest sound here) elsewhere
-  | inr ne ↦ other_elsewhere program w g h hart rest sound here ne elsewhere (slice_get w.harts g) refl
+steps_move program named w g h hart rest sound here elsewhere = elim (cases_eq h g) [
+  | inl same ↦ subst (λ (i : ℕ). IsElsewhere program w named i h → MovesTo h named w hart rest (after_event program w (Step i)) rest) same
+      (own_elsewhere program named w h hart rest sound here) elsewhere
+  | inr ne ↦ other_elsewhere program named w g h hart rest sound here ne elsewhere (slice_get w.harts g) refl
 ]
 
 -- ---- Evictions and crashes
 
 pub evictions_move : EvictionsMove
 unfolding happens
-evictions_move program w line mask h hart rest here =
+evictions_move program named w line mask h hart rest here =
     let persisted = evictions_raise w.words line mask in
     record {
       next = hart;
       there = here;
       log = refl;
-      moves = Elsewhere [] refl (changed_by_persisted w.words _ persisted) (λ i below. persisted.each (log_word w.log h i))
+      moves = Elsewhere [] refl (changed_by_persisted w.words _ persisted) (λ i below. inl (persisted.each (log_word w.log h i)))
           (sym (append-nil hart.queue)) tt;
     }
 

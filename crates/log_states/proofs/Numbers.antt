@@ -4,10 +4,10 @@ use Rattle.std.specs.List.{Contains}
 use Rattle.std.proofs.lemmas.Bool.{cases_lt, le-ltb, lt-ltb}
 use Rattle.log_schemes.specs.declared.log.Log.{Log}
 use Rattle.ido_base.specs.Layout.{variables_base, logs_base, byte_number, word_number}
-use Rattle.log_schemes.specs.Layout.{log_lines, log_words, word_count, log_of, point_at, slot_at}
+use Rattle.log_schemes.specs.Layout.{frame_at, log_lines, log_words, word_count, log_of, point_at, slot_at}
 use Rattle.log_schemes.specs.Schemes.{bank_lines}
-use Rattle.log_states.specs.Logs.{log_word, bank_word, IsInBank}
-use Rattle.log_schemes.specs.SchemeFacts.{slot_index}
+use Rattle.log_states.specs.Logs.{log_word, bank_word, frame_word, IsFrameWord, IsInBank}
+use Rattle.log_schemes.specs.SchemeFacts.{frame_index, slot_index}
 use Rattle.log_schemes.proofs.Public.{line_below, scheme}
 
 -- ---- Bytes and words
@@ -134,3 +134,42 @@ point_line log thread = omega (arith, byte_of_point log thread)
 
 pub point_line_exists : (log : Log) (thread : ℕ) → 8 * (byte_number (point_at log thread) / 64) + 8 ≤ word_count log (thread + 1)
 point_line_exists log thread = omega (arith, byte_of_point log thread, (scheme log).stands.lines)
+
+-- ---- The frame
+
+pub frame_in_log : (log : Log) (thread word : ℕ) → frame_word log thread word ≡ log_word log thread (frame_index word)
+frame_in_log log thread word = ap word_number ((scheme log).frame.address thread word) ∙ word_of_log log thread (frame_index word)
+
+pub whole_frame_word : (log : Log) (thread word : ℕ) → byte_number (frame_at log thread word) % 8 ≡ 0
+whole_frame_word log thread word =
+    ap (λ (a : ℕ). byte_number a % 8) ((scheme log).frame.address thread word) ∙ whole_word log thread (frame_index word)
+
+-- a word of the frame is a word of the log, and neither the point nor a slot
+pub frame_inside : (log : Log) (word : ℕ) → IsFrameWord log word → frame_index word < log_words log
+frame_inside log word is = (scheme log).frame.inside word is.frame is.exists
+
+pub frame_not_point : (log : Log) (thread word : ℕ) → frame_word log thread word ≢ word_number (point_at log thread)
+frame_not_point log thread word e = omega (arith, e, frame_in_log log thread word)
+
+pub frame_not_slot : (log : Log) (thread word bank slot : ℕ) → IsFrameWord log word → bank < 2 → IsInBank log slot →
+    frame_word log thread word ≢ bank_word log thread bank slot
+frame_not_slot log thread word bank slot is two inside e =
+    (scheme log).frame.apart word bank slot is.frame is.exists two inside (omega (arith, e, frame_in_log log thread word, slot_in_log log thread bank slot))
+
+-- the number of a line of the frame
+abbrev pub frame_line : Log → (thread line : ℕ) → ℕ
+frame_line log thread line = byte_number (frame_at log thread (8 * line)) / 64
+
+frame_line_is : (log : Log) (thread line : ℕ) → 8 * frame_line log thread line ≡ log_word log thread (frame_index (8 * line))
+frame_line_is log thread line =
+    let i : ℕ = frame_index (8 * line) in
+    ap (λ (a : ℕ). 8 * (byte_number a / 64)) ((scheme log).frame.address thread (8 * line))
+    ∙ omega (arith, byte_of_log log thread i, byte_of_point log thread)
+
+pub word_in_line : (log : Log) (thread word line : ℕ) → word / 8 ≡ line → 8 * frame_line log thread line + word % 8 ≡ frame_word log thread word
+word_in_line log thread word line is = omega (arith, is, frame_line_is log thread line, frame_in_log log thread word)
+
+pub frame_line_exists : (log : Log) (thread line : ℕ) → IsFrameWord log (8 * line) → 8 * frame_line log thread line + 8 ≤ word_count log (thread + 1)
+frame_line_exists log thread line is =
+    let inside = frame_inside log (8 * line) is in
+    omega (arith, inside, frame_line_is log thread line, word_of_point log thread)

@@ -12,16 +12,17 @@ use Rattle.log_schemes.specs.Layout.{log_lines, log_words, slot_at, point_at, in
 use Rattle.rv64_isa.specs.Rows.{read}
 use Rattle.machine_model.specs.Machine.{durable_point, durable_at, bank_of, record_of, recorded, resumed_registers, start_of}
 use Rattle.machine_model.proofs.Public.{starts_simulate}
-use Rattle.boundary_code.specs.Boundaries.{slots_kept, IsOnSide}
-use Rattle.log_schemes.specs.Schemes.{kept_locks, register_slot}
+use Rattle.boundary_code.specs.Boundaries.{pairs_kept, slots_kept, IsOnSide}
+use Rattle.log_schemes.specs.SchemeFacts.{HasEach}
+use Rattle.log_schemes.specs.Schemes.{kept_locks, register_slot, told}
 use Rattle.boundary_code.proofs.Public.{fresh_on_side}
 use Rattle.log_states.specs.Logs.{Record, value_of, IsRecord, log_word, IsWord, IsDurable}
-use Rattle.log_states.specs.BanksRead.{HasKept}
+use Rattle.log_states.specs.BanksRead.{HasKept, HasTold}
 use Rattle.log_states.specs.Stages.{LogConfig, MayOverwrite, is_committed, left_by_crash}
 use Rattle.log_states.specs.Laws.{RecordIsResumed, CrashesResume, StartsEmpty}
 use Rattle.log_states.proofs.Lists.{slots_in, slot_listed}
 use Rattle.log_schemes.proofs.Public.{contains_none}
-use Rattle.log_states.proofs.KeptRecords.{banks_read, lock_value, nothing_is_record, register_value, slot_there}
+use Rattle.log_states.proofs.KeptRecords.{banks_read, pair_value, nothing_is_record, register_value, slot_there}
 use Rattle.log_states.proofs.Numbers.{word_of_point, rows_within}
 use Rattle.log_states.proofs.BoundaryCommits.{IsLeft, left_recorded, crashes_leave}
 use Rattle.log_states.proofs.Words.{durable_is}
@@ -30,18 +31,24 @@ use Rattle.log_states.proofs.Words.{durable_is}
 
 module _ (log : Log) (thread : ℕ) (r : Record) (words : List Word) (is : IsRecord log r) (h : IsLeft log thread r words) where
   -- a slot of the point's bank
-  kept : (slot : ℕ) → r.point ≢ 0 → Contains (slots_kept log r.locks r.live) slot → recorded log words thread slot ≡ value_of log r slot
+  kept : (slot : ℕ) → r.point ≢ 0 → Contains (slots_kept log r.locks r.written r.live) slot → recorded log words thread slot ≡ value_of log r slot
   kept slot some c =
       ap (λ (n : ℕ). durable_at words (slot_at log thread (bank_of n) slot)) h.point
       ∙ durable_is (word_at words (word_number (slot_at log thread (bank_of r.point) slot))) (value_of log r slot)
       (h.bank slot (subst (λ (slots : List ℕ). Contains slots slot)
-      (sym (cond-false (eqb r.point 0) [] (slots_kept log r.locks r.live) (ne_eqb r.point 0 some))) c))
+      (sym (cond-false (eqb r.point 0) [] (slots_kept log r.locks r.written r.live) (ne_eqb r.point 0 some))) c))
+
+  has_pairs : r.point ≢ 0 → HasEach (recorded log words thread) (pairs_kept log r.locks r.written)
+  has_pairs some one c =
+      kept one.0 some (Contains-append_left (slots_in (pairs_kept log r.locks r.written)) (map (register_slot log) r.live) one.0
+      (slot_listed (pairs_kept log r.locks r.written) one c))
+      ∙ pair_value log r is.locks is.live is.for_write one c
 
   has_kept : r.point ≢ 0 → HasKept log words thread r.locks
-  has_kept some one c =
-      kept one.0 some (Contains-append_left (slots_in (kept_locks log r.locks)) (map (register_slot log) r.live) one.0
-      (slot_listed (kept_locks log r.locks) one c))
-      ∙ lock_value log r is.locks is.live one c
+  has_kept some one c = has_pairs some one (Contains-append_left (kept_locks log r.locks) (told log r.written) one c)
+
+  has_told : r.point ≢ 0 → HasTold log words thread r.written
+  has_told some one c = has_pairs some one (Contains-append_right (kept_locks log r.locks) (told log r.written) one c)
 
   pub left_locks : record_of log words thread ≡ cond (eqb r.point 0) [] r.locks
   left_locks = elim (cases_eq r.point 0) [
@@ -55,9 +62,10 @@ module _ (log : Log) (thread : ℕ) (r : Record) (words : List Word) (is : IsRec
   register some slot c =
       let keepable = is.live slot c in
       (banks_read log).registers words thread slot keepable
-      ∙ kept (register_slot log slot) some (Contains-append_right (slots_in (kept_locks log r.locks)) (map (register_slot log) r.live) (register_slot log slot)
+      ∙ kept (register_slot log slot) some (Contains-append_right (slots_in (pairs_kept log r.locks r.written)) (map (register_slot log) r.live)
+      (register_slot log slot)
       (slot_there log r.live slot c))
-      ∙ register_value log r is.locks is.live slot c
+      ∙ register_value log r is.locks is.live is.for_write slot c
 
 pub record_is_resumed : RecordIsResumed
 record_is_resumed log thread r words is h =
@@ -67,11 +75,13 @@ record_is_resumed log thread r words is h =
       live_point = h.point.live;
       locks = left_locks log thread r words is left;
       kept = has_kept log thread r words is left;
+      told = has_told log thread r words is left;
       registers = λ some slot c. register log thread r words is left some slot c;
       side = record {
         registers = subst (λ (point : ℕ). IsOnSide log (bank_of point) (resumed_registers log words thread)) left.point ((banks_read log).side words thread);
         is = λ some. refl;
       };
+      frame = h.frame;
     }
 
 -- what a crash leaves is a record
@@ -128,6 +138,7 @@ starts_empty log program locks thread initial inside =
         point = subst (λ (w : Word). IsDurable w 0) (sym (word_zero log (length program) initial (word_number (point_at log thread))
             (omega (arith, word_of_point log thread)))) (record { durable = refl; live = refl });
         bank = λ slot c. absurd (contains_none slot c);
+        frame = λ word c. absurd (contains_none word c);
       },
       record { registers = fresh_on_side log; is = λ some. absurd (some refl) },
     )

@@ -1,11 +1,12 @@
 -- One word of a log: what a store of all its bytes makes of it, and what it is once it is persisted.
-use Rattle.std.proofs.Common.{◌≡◌, ◌≢◌, inl, inr, ℕ, zero, suc, ◌+◌, ◌-◌, ◌/◌, ◌%◌, ◌^◌, ◌<◌, ◌≤◌, List, [], ◌∷◌, length, refl, ap, arith, ◌∙◌, get_or}
+use Rattle.std.proofs.Common.{◌≡◌, ◌≢◌, inl, inr, ℕ, zero, suc, ◌+◌, ◌-◌, ◌/◌, ◌%◌, ◌^◌, ◌<◌, ◌≤◌, List, [], ◌∷◌, length, refl, ap, arith, sym, ◌∙◌, subst}
+use Rattle.std.proofs.Common.{get_or}
 use Rattle.std.proofs.lemmas.Bool.{cases_lt}
-use Rattle.std.proofs.lemmas.List.{get_or_append_left, get_or-append_right}
+use Rattle.std.proofs.lemmas.List.{get_or_append_left, get_or-append_right, get_or_past}
 use Rattle.std.proofs.Math.ListN.{length-append}
-use Rattle.ido_base.specs.Words.{Word, word_at, last_position, live_value, durable_value, with_value, part, with_part, stored, after_crash}
+use Rattle.ido_base.specs.Words.{Word, word_of, word_at, last_position, live_value, durable_value, with_value, part, with_part, stored, after_crash}
 use Rattle.ido_base.specs.Growth.{IsPersisted}
-use Rattle.ido_base.proofs.Public.{same_last, word_same, word_other}
+use Rattle.ido_base.proofs.Public.{same_last, stores_change, word_same, word_other}
 use Rattle.log_states.specs.Logs.{IsWord, IsDurable}
 use Rattle.log_states.specs.Laws.{DurableIsStable}
 
@@ -76,6 +77,28 @@ stored_word w new is fits = record {
     | inr after ↦ omega (arith, stored_after w new p after, one_below new (p - length w.values) fits)
   ];
 }
+
+whole_below : (value new : ℕ) → value < 2 ^ 64 → with_part value 0 8 new < 2 ^ 64
+whole_below value new below = omega (arith, below)
+
+-- a store of a whole word, whatever is stored
+pub any_stored : (words : List Word) (number count new : ℕ) → number % 8 ≡ 0 → count ≡ 8 → IsWord (word_at words (number / 8)) →
+    IsWord (word_at (stored words number count new) (number / 8))
+any_stored words number count new aligned eight is =
+    let w = word_at words (number / 8) in
+    let value : ℕ = with_part (live_value w) (number % 8) count new in
+    elim (cases_lt (number / 8) (length words)) [
+      | inl inside ↦
+          let e : value ≡ with_part (live_value w) 0 8 new =
+          ap (λ (n : ℕ). with_part (live_value w) n count new) aligned ∙ ap (λ (n : ℕ). with_part (live_value w) 0 n new) eight in
+          let fits : value < 2 ^ 64 = subst (λ (n : ℕ). n < 2 ^ 64) (sym e) (whole_below (live_value w) new (is.values (last_position w))) in
+          subst (λ (v : Word). IsWord v) (sym (word_same words (number / 8) (with_value w value) inside)) (stored_word w value is fits)
+      | inr past ↦
+          let size = (stores_change words number count new).size in
+          subst (λ (v : Word). IsWord v)
+          (get_or_past words (number / 8) (word_of 0) past
+          ∙ sym (get_or_past (stored words number count new) (number / 8) (word_of 0) (omega (arith, past, size)))) is
+    ]
 
 -- ---- Crashes
 

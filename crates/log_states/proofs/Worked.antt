@@ -1,9 +1,10 @@
 -- Worked rows: a boundary of the first thread that holds lock 0, keeps x8 and x9, and resumes at 0x1_0040, in the second bank, where
 -- nothing was recorded before it. A crash comes after each of its effects, with or without an eviction of the point's line.
-use Rattle.std.proofs.Common.{◌≡◌, ℕ, zero, suc, ◌+◌, ◌*◌, ◌/◌, List, [], ◌∷◌, ◌++◌, map, refl, pos, Bool, true, false, take, drop, replicate}
+use Rattle.std.proofs.Common.{◌≡◌, ℕ, zero, suc, ◌+◌, ◌*◌, ◌/◌, List, [], ◌∷◌, ◌++◌, map, refl, pos, None, Some, Bool, true, false, take, drop, replicate}
 use Rattle.std.specs.Prelude.{slice_set, if◌then◌else◌}
-use Rattle.log_schemes.specs.declared.log.Log.TheVariants.{V1, V2}
-use Rattle.ido_base.specs.Words.{Word, word_of, entry_of, stored, evicted, crashed}
+use Rattle.log_schemes.specs.declared.log.Log.TheVariants.{V1, V2, Justdo}
+use Rattle.log_states.specs.Logs.{frame_in}
+use Rattle.ido_base.specs.Words.{Word, live_value, word_of, entry_of, stored, evicted, crashed}
 use Rattle.ido_base.specs.Growth.{drained_all}
 use Rattle.ido_base.specs.Locks.{locks_in, mask_with}
 use Rattle.ido_base.specs.Layout.{byte_number, line_bytes, variable_lines}
@@ -15,7 +16,7 @@ use Rattle.log_states.specs.Stages.{LogConfig, is_committed}
 use Rattle.log_states.specs.Laws.{recorded_by}
 
 b : Boundary
-b = record { log = V1; thread = 0; locks = 0 ∷ []; live = 8 ∷ 9 ∷ []; resume = pos 0 }
+b = record { log = V1; thread = 0; locks = 0 ∷ []; live = 8 ∷ 9 ∷ []; resume = pos 0; written = None; opens = true }
 
 registers : List ℕ
 registers = slice_set (slice_set (replicate 32 0) 8 7) 9 5
@@ -107,7 +108,7 @@ each_crash : map told (states effects first)
 unfolding told left locks_in states made first effects b registers with_eviction nothing everything before_point at_point at_end
 each_crash = refl
 
-resumes_there : resume_of (recorded_by b 0 0x1_0040 registers).point ≡ 0x1_0040
+resumes_there : resume_of (recorded_by b [] (λ word. 0) 0 0x1_0040 registers).point ≡ 0x1_0040
 unfolding b registers
 resumes_there = refl
 
@@ -118,7 +119,9 @@ no_first_fence = refl
 
 -- the next boundary holds locks 0 and 1, and an eviction makes its mask durable before its point is stored
 next : (side : ℕ) → List Effect
-next side = boundary_effects (record { log = V1; thread = 0; locks = 0 ∷ 1 ∷ []; live = []; resume = pos 0 }) side 0x1_0080 (replicate 32 0)
+next side =
+    boundary_effects (record { log = V1; thread = 0; locks = 0 ∷ 1 ∷ []; live = []; resume = pos 0; written = None; opens = true }) side 0x1_0080
+    (replicate 32 0)
 
 mask_evicted : (line : ℕ) → LogConfig → LogConfig
 mask_evicted line m = record { words = evicted m.words line 1; queue = m.queue; rest = m.rest }
@@ -136,7 +139,7 @@ same_bank = refl
 -- ---- A log that lists its locks: locks 5 and 9 are held, and x8 and x9 kept
 
 listing : Boundary
-listing = record { log = V2; thread = 0; locks = 5 ∷ 9 ∷ []; live = 8 ∷ 9 ∷ []; resume = pos 0 }
+listing = record { log = V2; thread = 0; locks = 5 ∷ 9 ∷ []; live = 8 ∷ 9 ∷ []; resume = pos 0; written = None; opens = true }
 
 listed : LogConfig
 unfolding registers listing
@@ -170,3 +173,42 @@ from_point_on = refl
 all_listed : left_of_list (listed_after 12 false) ≡ 0x1_0041 ∷ 7 ∷ 5 ∷ 1024 ∷ 5 ∷ 9 ∷ []
 unfolding left_of_list listed_after after made listed registers listing with_eviction
 all_listed = refl
+
+-- ---- A log with a frame: lock 5 is held, a write of eight bytes comes, and word 0 of the frame has just got 3
+
+framing : (opens : Bool) → Boundary
+framing opens = record { log = Justdo; thread = 0; locks = 5 ∷ []; live = 28 ∷ 29 ∷ []; resume = pos 0; written = Some 8; opens = opens }
+
+pending : List ℕ
+pending = slice_set (slice_set (replicate 32 0) 28 7) 29 5
+
+framing_effects : (opens : Bool) → List Effect
+unfolding framing pending
+framing_effects opens = boundary_effects (framing opens) 0 0x1_0040 pending
+
+framing_in_order : framing_effects true ≡
+    Stores 0x2000_0440 8 1 ∷ Stores 0x2000_0460 8 5 ∷ Stores 0x2000_0458 8 8 ∷ Stores 0x2000_0448 8 7 ∷ Stores 0x2000_0450 8 5 ∷ Cleans 0x2000_0440 ∷
+    Cleans 0x2000_0200 ∷ Cleans 0x2000_0240 ∷ Cleans 0x2000_0280 ∷ Fences ∷ Stores 0x2000_0000 8 0x1_0041 ∷ Cleans 0x2000_0000 ∷ Fences ∷ []
+unfolding framing_effects framing pending
+framing_in_order = refl
+
+framing_first : List Effect → LogConfig
+framing_first rest = record {
+  words = stored (replicate (8 * (variable_lines + log_lines Justdo)) (word_of 0)) (byte_number 0x2000_0200) 8 3;
+  queue = [];
+  rest = rest;
+}
+
+-- what a crash after the boundary leaves there
+frame_left : (opens : Bool) → ℕ
+unfolding framing_effects framing_first after
+frame_left opens = live_value (frame_in Justdo (crashed (after 13 (framing_effects opens) (framing_first (framing_effects opens))).words) 0 0)
+
+-- one that opens a section makes it durable
+opened : frame_left true ≡ 3
+unfolding frame_left framing_effects framing_first after made framing pending
+opened = refl
+
+not_opened : frame_left false ≡ 0
+unfolding frame_left framing_effects framing_first after made framing pending
+not_opened = refl

@@ -3,31 +3,35 @@ use Rattle.std.specs.Prelude.{◌≡◌, ◌≢◌, ◌⊎◌, ℕ, ◌+◌, ◌
 use Rattle.std.specs.Prelude.{if◌then◌else◌}
 use Rattle.std.specs.List.{Contains, list_any}
 use Rattle.log_schemes.specs.declared.log.Log.{Log}
-use Rattle.ido_base.specs.Words.{Word, Entry, last_position, stored, crashed}
-use Rattle.ido_base.specs.Growth.{Stable, AreEntries}
+use Rattle.ido_base.specs.Words.{Word, Entry, last_position, live_value, stored, crashed}
+use Rattle.ido_base.specs.Growth.{Stable, AreEntries, PersistsThrough}
 use Rattle.ido_base.specs.Layout.{variables_base, variable_lines, line_bytes, byte_number}
 use Rattle.log_schemes.specs.Layout.{log_words, point_at}
 use Rattle.rv64_isa.specs.declared.object.Slot.{Slot}
 use Rattle.rv64_isa.specs.Rows.{Effect, Stores, read}
 use Rattle.machine_model.specs.Machine.{durable_point, live_at, resume_of, record_of, resumed_registers, start_of}
 use Rattle.machine_model.specs.Schedule.{is_point_store}
-use Rattle.memory_layout.specs.Roles.{is_kept}
+use Rattle.log_schemes.specs.Schemes.{may_keep}
 use Rattle.boundary_code.specs.Boundaries.{Boundary, boundary_effects, is_empty, IsOnSide, other_side, side_after}
 use Rattle.log_states.specs.Logs.{Record, nothing_recorded, side_of, IsSideOf, IsKeepable, IsRecord, log_word}
 use Rattle.log_schemes.specs.SchemeFacts.{AreLoggable, slot_index}
 use Rattle.log_states.specs.Logs.{bank_word, point_in, HasLog, IsUnstored, IsDurable, IsRecorded}
-use Rattle.log_states.specs.BanksRead.{HasKept}
+use Rattle.log_states.specs.Logs.{AreNamed, HasFrame, IsFrameWord, IsTellable, IsUnnamed, KeepsForWrite, frame_in, frame_word}
+use Rattle.log_states.specs.BanksRead.{HasKept, HasTold}
 use Rattle.log_states.specs.Stages.{LogConfig, Moves, LogIs, fences_ahead, is_store, is_committed, left_by_crash}
 
 -- ---- Boundaries
 
--- what a boundary records, where the log was on this side before it
-abbrev pub recorded_by : Boundary → (side resume : ℕ) → (registers : List ℕ) → Record
-recorded_by b side resume x = record {
+-- what a boundary records, where the log was on this side before it, and the words of the frame that it counts on have these values
+abbrev pub recorded_by : Boundary → (framed : List ℕ) → (frame : ℕ → ℕ) → (side resume : ℕ) → (registers : List ℕ) → Record
+recorded_by b framed frame side resume x = record {
   point = if is_empty b.locks then 0 else (resume + other_side side) % 2 ^ 64;
   locks = b.locks;
   live = b.live;
   registers = x;
+  written = b.written;
+  framed = framed;
+  frame = frame;
 }
 
 -- a boundary that can be recovered from: it resumes at an instruction, and its log can keep its locks and its registers, of 64 bits
@@ -35,25 +39,44 @@ pub record IsRecoverable (b : Boundary) (resume : ℕ) (x : List ℕ) : Type 0 w
   pub locks : AreLoggable b.log b.locks
   pub live : (register : ℕ) → Contains b.live register → IsKeepable b.log register
   pub registers : (register : ℕ) → Contains b.live register → read x register < 2 ^ 64
+  pub told : IsTellable b.log b.written
+  pub for_write : KeepsForWrite b.log b.written b.live
   pub aligned : resume % 4 ≡ 0
   pub somewhere : 0 < resume
   pub below : resume < 2 ^ 64
 
 -- a log can keep every register that a boundary may keep
 abbrev pub KeptAreKeepable : Type 0
-KeptAreKeepable = (log : Log) (register : ℕ) → is_kept register ≡ true → IsKeepable log register
+KeptAreKeepable = (log : Log) (register : ℕ) → may_keep log register ≡ true → IsKeepable log register
 
 -- by these registers the log is on this side, which is the record's
 pub record IsAtRecord (log : Log) (r : Record) (side : ℕ) (x : List ℕ) : Type 0 where
   pub registers : IsOnSide log side x
   pub is : IsSideOf r side
 
+-- a value of this word of the frame will be durable when the boundary's bank is: it is, or is queued, or the boundary opens a section
+pub data WillBeDurable (b : Boundary) (words : List Word) (queue : List Entry) (word value : ℕ) : Type 0 where
+  IsThere : IsDurable (frame_in b.log words b.thread word) value → WillBeDurable b words queue word value
+  IsQueued : live_value (frame_in b.log words b.thread word) ≡ value →
+      PersistsThrough words queue (frame_word b.log b.thread word) (last_position (frame_in b.log words b.thread word)) →
+      WillBeDurable b words queue word value
+  IsCleaned : live_value (frame_in b.log words b.thread word) ≡ value → b.opens ≡ true → WillBeDurable b words queue word value
+
+-- a word of the frame on which the boundary's record is to count
+pub record FrameComes (b : Boundary) (words : List Word) (queue : List Entry) (word value : ℕ) : Type 0 where
+  pub in_frame : IsFrameWord b.log word
+  pub comes : WillBeDurable b words queue word value
+
+-- where the boundary ends no section
+abbrev pub FrameIsComing : (b : Boundary) (framed : List ℕ) (frame : ℕ → ℕ) (words : List Word) (queue : List Entry) → Type 0
+FrameIsComing b framed frame words queue = b.locks ≢ [] → (word : ℕ) → Contains framed word → FrameComes b words queue word (frame word)
+
 -- a log begins a boundary from its record
 abbrev pub BoundaryBegins : Type 0
-BoundaryBegins = (b : Boundary) (old : Record) (side resume : ℕ) (x : List ℕ) (words : List Word) (queue : List Entry) →
+BoundaryBegins = (b : Boundary) (framed : List ℕ) (frame : ℕ → ℕ) (old : Record) (side resume : ℕ) (x : List ℕ) (words : List Word) (queue : List Entry) →
     HasLog b.log b.thread words → AreEntries words queue → IsRecord b.log old → IsRecorded b.log b.thread old words → IsAtRecord b.log old side x →
-    IsRecoverable b resume x →
-    LogIs b.log b.thread old (recorded_by b side resume x) (record { words = words; queue = queue; rest = boundary_effects b side resume x })
+    IsRecoverable b resume x → FrameIsComing b framed frame words queue →
+    LogIs b.log b.thread old (recorded_by b framed frame side resume x) (record { words = words; queue = queue; rest = boundary_effects b side resume x })
 
 -- a log that has a record is one on its way that has arrived
 abbrev pub Rests : Type 0
@@ -64,19 +87,22 @@ Rests =
 
 -- the side goes with the record: the one after a boundary is that of what it has recorded
 abbrev pub SideFollows : Type 0
-SideFollows = (b : Boundary) (side resume : ℕ) (x : List ℕ) → IsRecoverable b resume x → IsSideOf (recorded_by b side resume x) (side_after b side)
+SideFollows = (b : Boundary) (framed : List ℕ) (frame : ℕ → ℕ) (side resume : ℕ) (x : List ℕ) → IsRecoverable b resume x →
+    IsSideOf (recorded_by b framed frame side resume x) (side_after b side)
 
 -- ---- Every event
 
--- whatever happens in a boundary, its log stays on its way from the one record to the other
+-- whatever happens in a boundary, its log stays on its way from the one record to the other: nobody stores to words of the frame that either counts on
 abbrev pub Keeps : Type 0
-Keeps = (log : Log) (thread : ℕ) (old new : Record) (m n : LogConfig) → LogIs log thread old new m → Moves log thread m n → LogIs log thread old new n
+Keeps = (log : Log) (thread : ℕ) (named : List ℕ) (old new : Record) (m n : LogConfig) → AreNamed named old → AreNamed named new →
+    LogIs log thread old new m → Moves log thread named m n →
+    LogIs log thread old new n
 
 -- between boundaries the log keeps its record
 abbrev pub StaysRecorded : Type 0
 StaysRecorded =
-    (log : Log) (thread : ℕ) (r : Record) (m n : LogConfig) → IsRecord log r → m.rest ≡ [] → HasLog log thread m.words → AreEntries m.words m.queue →
-    IsRecorded log thread r m.words → Moves log thread m n →
+    (log : Log) (thread : ℕ) (named : List ℕ) (r : Record) (m n : LogConfig) → AreNamed named r → IsRecord log r → m.rest ≡ [] → HasLog log thread m.words →
+    AreEntries m.words m.queue → IsRecorded log thread r m.words → Moves log thread named m n →
     HasLog log thread n.words × AreEntries n.words n.queue × IsRecorded log thread r n.words
 
 -- what is recorded is stable: its bytes are these whatever a crash leaves
@@ -87,10 +113,15 @@ DurableIsStable = (w : Word) (value : ℕ) → value < 2 ^ 64 → IsDurable w va
 abbrev pub BoundaryEnds : Type 0
 BoundaryEnds = (log : Log) (thread : ℕ) (old new : Record) (m : LogConfig) → LogIs log thread old new m → m.rest ≡ [] → IsRecorded log thread new m.words
 
--- a store elsewhere leaves a log as it is, as one to another thread's log does
+-- a store of so many bytes from the byte of this number on is made to no word of the thread's log, or to a whole word of its frame that isn't named
+abbrev pub StoresBeside : (log : Log) (thread : ℕ) (named : List ℕ) (number count : ℕ) → Type 0
+StoresBeside log thread named number count =
+    (i : ℕ) → i < log_words log → number / 8 ≡ log_word log thread i → IsUnnamed log named i × (number % 8 ≡ 0) × (count ≡ 8)
+
+-- such a store leaves a log as it is, as one to another thread's log does
 abbrev pub StoresElsewhere : Type 0
-StoresElsewhere = (log : Log) (thread number count value : ℕ) (words : List Word) → ((i : ℕ) → i < log_words log → number / 8 ≢ log_word log thread i) →
-    IsUnstored log thread words (stored words number count value)
+StoresElsewhere = (log : Log) (thread : ℕ) (named : List ℕ) (number count value : ℕ) (words : List Word) → StoresBeside log thread named number count →
+    IsUnstored log thread named words (stored words number count value)
 
 abbrev pub LogsAreApart : Type 0
 LogsAreApart = (log : Log) (thread other i j : ℕ) → other ≢ thread → i < log_words log → j < log_words log → log_word log other j ≢ log_word log thread i
@@ -124,7 +155,8 @@ BeginsUncommitted = (b : Boundary) (side resume : ℕ) (x : List ℕ) (words : L
 -- a boundary that is committed stays so
 abbrev pub StaysCommitted : Type 0
 StaysCommitted =
-    (log : Log) (thread : ℕ) (old new : Record) (m n : LogConfig) → LogIs log thread old new m → Moves log thread m n → is_committed log thread m ≡ true →
+    (log : Log) (thread : ℕ) (named : List ℕ) (old new : Record) (m n : LogConfig) → LogIs log thread old new m → Moves log thread named m n →
+    is_committed log thread m ≡ true →
     is_committed log thread n ≡ true
 
 -- at the latest at its end a boundary is committed
@@ -139,7 +171,8 @@ PointStoreIsLast = (log : Log) (thread : ℕ) (old new : Record) (m : LogConfig)
 -- from the store of its point on, the last position of the point stays the same
 abbrev pub PositionStays : Type 0
 PositionStays =
-    (log : Log) (thread : ℕ) (old new : Record) (m n : LogConfig) → LogIs log thread old new m → Moves log thread m n → list_any is_store m.rest ≡ false →
+    (log : Log) (thread : ℕ) (named : List ℕ) (old new : Record) (m n : LogConfig) → LogIs log thread old new m → Moves log thread named m n →
+    list_any is_store m.rest ≡ false →
     last_position (point_in log n.words thread) ≡ last_position (point_in log m.words thread)
 
 -- once its point is stored, a boundary is committed exactly where the durable position is no less than the last
@@ -173,10 +206,13 @@ pub record ResumesRecord (log : Log) (thread : ℕ) (r : Record) (words : List W
   pub point : durable_point log words thread ≡ r.point
   pub live_point : live_at words (point_at log thread) ≡ r.point
   pub locks : record_of log words thread ≡ (if r.point == 0 then [] else r.locks)
-  -- the bank that the point names keeps them
+  -- the bank that the point names keeps them, and is told of the write that comes
   pub kept : r.point ≢ 0 → HasKept log words thread r.locks
+  pub told : r.point ≢ 0 → HasTold log words thread r.written
   pub registers : r.point ≢ 0 → (register : ℕ) → Contains r.live register → read (resumed_registers log words thread) register ≡ read r.registers register
   pub side : IsAtRecord log r (side_of r) (resumed_registers log words thread)
+  -- what the record counts on in the frame is there
+  pub frame : HasFrame log thread r words
 
 abbrev pub RecordIsResumed : Type 0
 RecordIsResumed = (log : Log) (thread : ℕ) (r : Record) (words : List Word) → IsRecord log r → IsRecorded log thread r words → ResumesRecord log thread r words
@@ -189,8 +225,8 @@ CrashesResume =
 
 -- the point of a boundary says its side and where it resumes
 abbrev pub PointSays : Type 0
-PointSays = (b : Boundary) (side resume : ℕ) (x : List ℕ) → IsRecoverable b resume x → b.locks ≢ [] →
-    let new = recorded_by b side resume x in (new.point ≢ 0) × (side_of new ≡ other_side side) × (resume_of new.point ≡ resume)
+PointSays = (b : Boundary) (framed : List ℕ) (frame : ℕ → ℕ) (side resume : ℕ) (x : List ℕ) → IsRecoverable b resume x → b.locks ≢ [] →
+    let new = recorded_by b framed frame side resume x in (new.point ≢ 0) × (side_of new ≡ other_side side) × (resume_of new.point ≡ resume)
 
 -- at the start nothing is recorded, and registers of 0 are on the first side
 abbrev pub StartsEmpty : Type 0

@@ -6,16 +6,16 @@ use Rattle.ido_base.specs.Layout.{byte_number}
 use Rattle.log_schemes.specs.Layout.{point_at}
 use Rattle.rv64_isa.specs.Rows.{Effect, Stores}
 use Rattle.machine_model.specs.Machine.{durable_point, live_at, bank_of, record_of}
-use Rattle.log_states.specs.Logs.{Record, bank_word, IsInBank, HasBank}
+use Rattle.log_states.specs.Logs.{Record, bank_word, IsInBank, HasBank, HasFrame}
 use Rattle.log_states.specs.Stages.{LogConfig, LogIs, left_by_crash}
 use Rattle.log_states.specs.Laws.{PointIs, CommittedAfterFence, RecordIsResumed, CrashesResume}
 
 -- ---- Bank before point
 
--- where the store of a point is a boundary's next effect, it is that of the record, whose bank is durable
+-- where the store of a point is a boundary's next effect, it is that of the record, whose bank is durable, and so are the words of the frame that it counts on
 abbrev pub PointsFindBank : Type 0
 PointsFindBank = (log : Log) (thread : ℕ) (old new : Record) (m : LogConfig) (point : ℕ) (later : List Effect) → LogIs log thread old new m →
-    m.rest ≡ Stores (point_at log thread) 8 point ∷ later → (point ≡ new.point) × HasBank log thread new m.words
+    m.rest ≡ Stores (point_at log thread) 8 point ∷ later → (point ≡ new.point) × HasBank log thread new m.words × HasFrame log thread new m.words
 
 pub record BankBeforePoint : Type 0 where
   pub bank : PointsFindBank

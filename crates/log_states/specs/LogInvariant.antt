@@ -9,10 +9,10 @@ use Rattle.machine_model.specs.Machine.{Hart, World, after_event, reply_to, star
 use Rattle.machine_model.specs.Frames.{IsWellFormedWorld}
 use Rattle.operator_code.specs.StraightLineCode.{seen}
 use Rattle.boundary_code.specs.Boundaries.{Boundary, boundary_effects}
-use Rattle.log_states.specs.Logs.{Record, nothing_recorded}
+use Rattle.log_states.specs.Logs.{AreNamed, Record, nothing_recorded}
 use Rattle.log_states.specs.Stages.{LogIs, left_by_crash}
 use Rattle.log_states.specs.Machines.{config_of, IsNext, IsElsewhere}
-use Rattle.log_states.specs.Laws.{recorded_by, IsRecoverable, IsAtRecord}
+use Rattle.log_states.specs.Laws.{recorded_by, FrameIsComing, IsRecoverable, IsAtRecord}
 
 -- the thread's hart is there, and its log on its way from the one record to the other, with these effects still to be made; with none
 -- it has the other record
@@ -47,8 +47,9 @@ StartsStanding = (log : Log) (program : List (List Slot)) (locks thread : ℕ) (
 
 -- a boundary begins
 abbrev pub BeginsStanding : Type 0
-BeginsStanding = (b : Boundary) (older old : Record) (side resume : ℕ) (x : List ℕ) (w : World) → b.log ≡ w.log → LogInv b.thread older old w [] →
-    IsAtRecord w.log old side x → IsRecoverable b resume x → LogInv b.thread old (recorded_by b side resume x) w (boundary_effects b side resume x)
+BeginsStanding = (b : Boundary) (framed : List ℕ) (frame : ℕ → ℕ) (older old : Record) (side resume : ℕ) (x : List ℕ) (w : World) → b.log ≡ w.log →
+    (s : LogInv b.thread older old w []) → IsAtRecord w.log old side x → IsRecoverable b resume x → FrameIsComing b framed frame w.words s.hart.queue →
+    LogInv b.thread old (recorded_by b framed frame side resume x) w (boundary_effects b side resume x)
 
 -- an instruction of it
 abbrev pub OwnStepsKeep : Type 0
@@ -59,9 +60,9 @@ OwnStepsKeep =
 
 -- any other step of any hart
 abbrev pub StepsKeep : Type 0
-StepsKeep =
-    (program : List (List Slot)) (g thread : ℕ) (old new : Record) (w : World) (rest : List Effect) → IsWellFormedWorld w → LogInv thread old new w rest →
-    IsElsewhere program w g thread → LogInv thread old new (after_event program w (Step g)) rest
+StepsKeep = (program : List (List Slot)) (named : List ℕ) (g thread : ℕ) (old new : Record) (w : World) (rest : List Effect) → IsWellFormedWorld w →
+    LogInv thread old new w rest → AreNamed named old → AreNamed named new → IsElsewhere program w named g thread →
+    LogInv thread old new (after_event program w (Step g)) rest
 
 abbrev pub EvictionsKeep : Type 0
 EvictionsKeep = (program : List (List Slot)) (line mask thread : ℕ) (old new : Record) (w : World) (rest : List Effect) → LogInv thread old new w rest →

@@ -5,7 +5,7 @@ ghost use Rattle.log_states.specs.Laws.{LivePointIs, LogsAreApart, PointIs, Poin
 ghost use Rattle.log_states.specs.Laws.{SideFollows};
 ghost use Rattle.log_states.specs.Laws.{Rests, SlotsAreIn, StartsEmpty, StaysCommitted, StaysRecorded, StoresElsewhere, VariablesAreApart};
 ghost use Rattle.log_states.specs.Machines.{BoundariesStayIn, CrashesCrash, EvictionsMove, LogEffectsGo, OwnStepsMove};
-ghost use Rattle.log_states.specs.Machines.{StepsMove, StoresNothing, StoresToOtherLog, StoresToVariable};
+ghost use Rattle.log_states.specs.Machines.{StepsMove, StoresNothing, StoresToFrame, StoresToOtherLog, StoresToVariable};
 ghost use Rattle.log_states.specs.LogFacts.{LogFacts};
 ghost use Rattle.log_states.specs.BanksRead.{AllBanksAreRead};
 ghost use Rattle.log_states.specs.LogInvariant.{BeginsStanding, CrashesStanding, EvictionsKeep, OwnStepsKeep, StartsStanding, StepsKeep};
@@ -19,7 +19,7 @@ pub fn boundaries_record()
     ensures rests { Rests }
 {}
 
-/// Between boundaries the log keeps its record, whatever is stored elsewhere, as to another thread's log.
+/// Between boundaries the log keeps its record, whatever is stored elsewhere, as to another thread's log or to words of the frame that it doesn't count on.
 pub fn records_stay()
     ensures event { StaysRecorded }
     ensures stable { DurableIsStable }
@@ -55,7 +55,8 @@ pub fn crashes_leave()
     ensures resumed { CrashesResume }
 {}
 
-/// Recovery makes of a record what the boundary made it of: its locks, its resume address, its registers, and the side of the log.
+/// Recovery makes of a record what the boundary made it of: its locks, what is told of a write, its resume address, its registers, the words of the frame
+/// that it counts on, and the side of the log.
 pub fn records_resume()
     ensures record { RecordIsResumed }
     ensures point { PointSays }
@@ -78,11 +79,12 @@ pub fn events_move()
     ensures crash { CrashesCrash }
 {}
 
-/// Steps that store nothing to a thread's log.
+/// Steps that store nothing to a thread's log, but maybe to words of its frame that aren't named.
 pub fn steps_apart()
     ensures nothing { StoresNothing }
     ensures variable { StoresToVariable }
     ensures boundary { StoresToOtherLog }
+    ensures frame { StoresToFrame }
 {}
 
 /// The machine reads back what a bank keeps: the locks, and each register from its slot.

@@ -30,7 +30,7 @@ module _ (all : List CodeItem) (n : Linking all) where
 
   -- from registers with which the codes leave the locks' numbers the code of the boundary is run, after the mark that waits for it
   does_leg : (k : ℕ) (b : Boundary) (codes : List (List Instr)) (code : List Instr) (p : IsPart all k (plain code)) (x : List ℕ) (side to : ℕ) (w : Bool) →
-      mark_waits false p.before ≡ w → DoesBoundary b codes code → LeaveLocks b.log b.thread b.locks codes x → IsOnSide b.log side x →
+      mark_waits false p.before ≡ w → DoesBoundary b codes code → LeaveLocks b.log b.thread b.locks codes n.environment.around x → IsOnSide b.log side x →
       resume_address b code (at k) ≡ to →
       GoesThrough n.environment (fragment x (at k) (at (k + length (plain code))) (length code)) (waiting w ++ boundary_observations b side to x)
       (LeavesRegisters b side x)
@@ -38,7 +38,7 @@ module _ (all : List CodeItem) (n : Linking all) where
   does_leg k b codes code p x side to w waits (in_parts h) leave on e = parts_leg b x all n codes code h leave k p side to w waits on e
 
   pub code_leg : (k : ℕ) (b : Boundary) (codes : List (List Instr)) (code : List Instr) (p : IsPart all k (plain code)) (x : List ℕ) (side to : ℕ) (w : Bool) →
-      mark_waits false p.before ≡ w → IsCodeOf b codes code → LeaveLocks b.log b.thread b.locks codes x → IsOnSide b.log side x →
+      mark_waits false p.before ≡ w → IsCodeOf b codes code → LeaveLocks b.log b.thread b.locks codes n.environment.around x → IsOnSide b.log side x →
       resume_address b code (at k) ≡ to →
       GoesThrough n.environment (fragment x (at k) (at (k + length (plain code))) (length code)) (waiting w ++ boundary_observations b side to x)
       (LeavesRegisters b side x)
@@ -46,7 +46,7 @@ module _ (all : List CodeItem) (n : Linking all) where
 
   pub boundary_items_leg : (k : ℕ) (b : Boundary) (codes : List (List Instr)) (code : List Instr) (p : IsPart all k (boundary_items code)) (x : List ℕ)
       (side : ℕ) → mark_waits false p.before ≡ false → IsCodeOf b codes code → b.resume ≡ pos 0 →
-      LeaveLocks b.log b.thread b.locks codes x → IsOnSide b.log side x →
+      LeaveLocks b.log b.thread b.locks codes n.environment.around x → IsOnSide b.log side x →
       GoesThrough n.environment (fragment x (at k) (at (k + length (boundary_items code))) (length code))
       (boundary_observations b side (at (k + length (boundary_items code))) x)
       (LeavesRegisters b side x)

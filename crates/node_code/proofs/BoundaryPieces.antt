@@ -8,7 +8,7 @@ use Rattle.rv64_isa.specs.Signed.{twos_complement}
 use Rattle.std.proofs.Math.Nat.{mod-eq_of_lt}
 use Rattle.std.proofs.lemmas.List.{length-set, length-append}
 use Rattle.std.proofs.lemmas.List.Sums.{sum_by-append}
-use Rattle.log_schemes.specs.Layout.{slot_at}
+use Rattle.log_schemes.specs.Layout.{frame_at, slot_at}
 use Rattle.rv64_isa.specs.declared.instr.Instr.{Instr}
 use Rattle.rv64_isa.specs.declared.instr.Instr.TheVariants.{Lui, Auipc, Jal, Jalr, Branch, Load, Store, OpImmediate, ShiftImmediate}
 use Rattle.rv64_isa.specs.declared.instr.Instr.TheVariants.{ShiftImmediateWord, Op, CboClean, Fence, Ecall}
@@ -17,8 +17,8 @@ use Rattle.rv64_isa.specs.declared.object.CodeItem.TheVariants.{ResumeNext}
 use Rattle.rv64_isa.specs.Rows.{Effect, Stores, Cleans, row, read, written}
 use Rattle.rv64_link.specs.LabelledCode.{most_words_of, stands_here, is_mark, is_resume, positions_from}
 use Rattle.boundary_code.specs.Boundaries.{Boundary, IsOnSide, boundary_effects, bank_effects, commit_effects}
-use Rattle.boundary_code.specs.Boundaries.{lines_in_use, slots_kept, is_empty}
-use Rattle.log_schemes.specs.Schemes.{kept_locks, register_slot}
+use Rattle.boundary_code.specs.Boundaries.{frame_lines, lines_in_use, pairs_kept, slots_kept, is_empty}
+use Rattle.log_schemes.specs.Schemes.{register_slot}
 use Rattle.operator_code.specs.StraightLineCode.{registers_after, left_by}
 use Rattle.operator_code.proofs.Public as s
 use Rattle.code_runs.specs.CodeTraces.{GoesThrough, AreMemory}
@@ -76,7 +76,7 @@ pub cleans_memory : (f : ℕ → ℕ) (lines : List ℕ) → AreMemory (map (λ 
 cleans_memory f [] = tt
 cleans_memory f (line ∷ lines) = (refl, cleans_memory f lines)
 
-locks_memory : (f : ℕ → ℕ) (kept : List (ℕ × ℕ)) → AreMemory (map (λ (k : ℕ × ℕ). Stores (f k.0) 8 k.1) kept)
+pub locks_memory : (f : ℕ → ℕ) (kept : List (ℕ × ℕ)) → AreMemory (map (λ (k : ℕ × ℕ). Stores (f k.0) 8 k.1) kept)
 locks_memory f [] = tt
 locks_memory f (k ∷ kept) = (refl, locks_memory f kept)
 
@@ -85,14 +85,17 @@ commit_memory log thread point = (refl, (refl, (refl, (refl, tt))))
 
 bank_memory : (b : Boundary) (bank : ℕ) (x : List ℕ) → AreMemory (bank_effects b bank x)
 bank_memory b bank x =
-    let lines = lines_in_use b.log (slots_kept b.log b.locks b.live) in
-    let locked = map (λ (k : ℕ × ℕ). Stores (slot_at b.log b.thread bank k.0) 8 k.1) (kept_locks b.log b.locks) in
+    let lines = lines_in_use b.log (slots_kept b.log b.locks b.written b.live) in
+    let kept = map (λ (k : ℕ × ℕ). Stores (slot_at b.log b.thread bank k.0) 8 k.1) (pairs_kept b.log b.locks b.written) in
     let stored = map (λ r. Stores (slot_at b.log b.thread bank (register_slot b.log r)) 8 (read x r)) b.live in
     let cleaned = map (λ line. Cleans (slot_at b.log b.thread bank (8 * line))) lines in
-    memory_both (locked ++ stored) cleaned
-    (memory_both locked stored (locks_memory (slot_at b.log b.thread bank) (kept_locks b.log b.locks))
+    let framed = map (λ line. Cleans (frame_at b.log b.thread (8 * line))) (frame_lines b.log b.opens) in
+    memory_both (kept ++ stored ++ cleaned) framed
+    (memory_both (kept ++ stored) cleaned
+    (memory_both kept stored (locks_memory (slot_at b.log b.thread bank) (pairs_kept b.log b.locks b.written))
     (stores_memory (λ r. slot_at b.log b.thread bank (register_slot b.log r)) (λ r. read x r) b.live))
-    (cleans_memory (λ line. slot_at b.log b.thread bank (8 * line)) lines)
+    (cleans_memory (λ line. slot_at b.log b.thread bank (8 * line)) lines))
+    (cleans_memory (λ line. frame_at b.log b.thread (8 * line)) (frame_lines b.log b.opens))
 
 pub boundary_memory : (b : Boundary) (side resume : ℕ) (x : List ℕ) → AreMemory (boundary_effects b side resume x)
 boundary_memory b side resume x = by (is_empty b.locks)

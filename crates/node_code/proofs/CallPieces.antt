@@ -75,9 +75,9 @@ registers_at : (log : Log) (side : ℕ) (x : List ℕ) → IsOnSide log side x �
 registers_at log side x a = record { count = a.count; zero_is = a.zero_is }
 
 -- a number that is a constant
-pub call_asks : (x : List ℕ) (number : ℕ) → number < 2048 → AsksNumber x number (call_code number)
-call_asks x number small = record {
-  asks = λ around y address are same stands room.
+pub call_asks : (around : r.Environment) (x : List ℕ) (number : ℕ) → number < 2048 → AsksNumber around x number (call_code number)
+call_asks around x number small = record {
+  asks = λ y address are same stands room.
       let i : Instr = OpImmediate Addi 10 0 number in
       let z : List ℕ = slice_set y 10 number in
       let low : address + 4 < 2 ^ 64 = omega (arith, room) in
@@ -140,7 +140,7 @@ module _ (all : List CodeItem) (n : Linking all) where
   at = n.linked.address_of
 
   asking_leg : (k : ℕ) (numbering : List Instr) (call number : ℕ) (p : IsPart all k (asking_items numbering call)) (x y : List ℕ) →
-      mark_waits false p.before ≡ false → call < 2048 → AsksNumber x number numbering → AreRegisters y → IsSame x y →
+      mark_waits false p.before ≡ false → call < 2048 → AsksNumber n.environment.around x number numbering → AreRegisters y → IsSame x y →
       GoesThrough n.environment (fragment y (at k) (at (k + length (asking_items numbering call))) (length numbering + 1)) [] (Asks call number y)
   asking_leg k numbering call number p x y closed small asks are same =
       let env = n.environment in
@@ -155,7 +155,7 @@ module _ (all : List CodeItem) (n : Linking all) where
       let end : at (k + length numbering) ≡ at k + 4 * length numbering = code_end all n k numbering own in
       let end_same : at (k + length numbering) ≡ at k2 = end_is all n k numbering in
       let room : at k2 < 2 ^ 64 = has_room all n k (plain numbering) own in
-      let asked = asks.asks env.around y (at k) are same (stand all k numbering n own) (omega (arith, end, end_same, room)) in
+      let asked = asks.asks y (at k) are same (stand all k numbering n own) (omega (arith, end, end_same, room)) in
       let z : List ℕ = asked.registers in
       let w : List ℕ = slice_set z 17 call in
       let one = run_leg all n k numbering own own_closed y z asked.run asked.short in
@@ -235,7 +235,7 @@ module _ (b : Boundary) (codes : List (List Instr)) (numbering code : List Instr
     piece_end : to (k₁ + 1 + 1 + length after_call) ≡ end_of piece site
     piece_end = let e : k₁ + 1 + 1 + length after_call ≡ k + length piece = omega (arith, length-append first from_mark) in ap to e
 
-    pub locks : Locks b (λ x. AsksNumber x lock numbering) (LeaveLocks b.log b.thread b.locks codes) lock piece site
+    pub locks : Locks b (λ around x. AsksNumber around x lock numbering) (LeaveLocks b.log b.thread b.locks codes) lock piece site
     locks = record {
       call = to k₁;
       calling = omega (arith, words, some);
@@ -273,7 +273,8 @@ module _ (b : Boundary) (codes : List (List Instr)) (numbering code : List Instr
           ∙ ap (λ (m : ℕ). m ∷ []) (sym (resume_stays site.items site.linking (k₁ + 1 + 1) code kept) ∙ piece_end);
     }
 
-  pub is_lock : IsLockPiece b (λ x. AsksNumber x lock numbering) (LeaveLocks b.log b.thread b.locks codes) (words_beside b.log codes + length numbering) lock
+  pub is_lock : IsLockPiece b (λ around x. AsksNumber around x lock numbering) (LeaveLocks b.log b.thread b.locks codes) (words_beside b.log codes + length
+      numbering) lock
       piece
   is_lock = record {
     closed = record {
@@ -404,7 +405,7 @@ module _ (b : Boundary) (codes : List (List Instr)) (numbering code : List Instr
         let fits : too (k' + 1 + length (plain code)) + giving_bytes numbering < 2 ^ 64 = omega (arith, f, after_call_is, asking_ends, room) in
         resumed_at site.items site.linking (k' + 1) b (giving_bytes numbering) code q resume fits ∙ omega (arith, f, after_call_is, asking_ends)
 
-    marked_boundary : (x : List ℕ) (side : ℕ) → LeaveLocks b.log b.thread b.locks codes x → IsOnSide b.log side x →
+    marked_boundary : (x : List ℕ) (side : ℕ) → LeaveLocks b.log b.thread b.locks codes site.linking.environment.around x → IsOnSide b.log side x →
         GoesThrough site.linking.environment (fragment x (too k') (too k₂) (length code)) (Mark ∷ boundary_observations b side (end_of given site) x)
         (LeavesRegisters b side x)
     marked_boundary x side leave a =
@@ -432,7 +433,8 @@ module _ (b : Boundary) (codes : List (List Instr)) (numbering code : List Instr
     unfolding call_part
     call_closed = waits_right site.items k₂ asked from_call asking_part ∙ asking_waits (mark_waits false asking_part.before) numbering 2
 
-    gives_it : (x : List ℕ) (side : ℕ) → AsksNumber x lock numbering → LeaveLocks b.log b.thread b.locks codes x → IsOnSide b.log side x →
+    gives_it : (x : List ℕ) (side : ℕ) → AsksNumber site.linking.environment.around x lock numbering →
+        LeaveLocks b.log b.thread b.locks codes site.linking.environment.around x → IsOnSide b.log side x →
         PieceLeads site x (begin_of given site) (too k₃) (Mark ∷ boundary_observations b side (end_of given site) x)
         (λ y. (z : List ℕ) × LeavesRegisters b side x z × Asks gives lock z y)
     gives_it x side asks leave a =
@@ -486,7 +488,7 @@ module _ (b : Boundary) (codes : List (List Instr)) (numbering code : List Instr
         subst (λ (ms : List ℕ). walks.marked ms (too k₃) ≡ []) site.linking.meets.marks
         (marked_code site.items site.linking k₃ Ecall [] q ∙ ap (λ (w : Bool). waiting w) closed)
 
-    pub unlocks : Unlocks b (λ x. AsksNumber x lock numbering) (LeaveLocks b.log b.thread b.locks codes) lock given site
+    pub unlocks : Unlocks b (λ around x. AsksNumber around x lock numbering) (LeaveLocks b.log b.thread b.locks codes) lock given site
     unlocks = record {
       call = too k₃;
       calling = omega (arith, given_words, some);
@@ -514,7 +516,8 @@ module _ (b : Boundary) (codes : List (List Instr)) (numbering code : List Instr
       labels_by label true = refl
       labels_by label false = refl
 
-  pub is_unlock : IsUnlockPiece b (λ x. AsksNumber x lock numbering) (LeaveLocks b.log b.thread b.locks codes) (words_beside b.log codes + length numbering)
+  pub is_unlock : IsUnlockPiece b (λ around x. AsksNumber around x lock numbering) (LeaveLocks b.log b.thread b.locks codes) (words_beside b.log codes + length
+      numbering)
       lock given
   is_unlock = record {
     closed = unlock_closed;

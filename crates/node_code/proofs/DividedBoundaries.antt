@@ -2,12 +2,12 @@
 use Rattle.std.proofs.Common.{◌≡◌, ◌≢◌, ℕ, ◌+◌, ◌*◌, ◌%◌, ◌^◌, ◌<◌, ◌≤◌, List, [], ◌∷◌, ◌++◌, length, map, refl, ap, sym, ◌∙◌, arith, subst}
 use Rattle.std.proofs.Common.{append_assoc, Bool, false}
 use Rattle.std.specs.Prelude.{if◌then◌else◌}
-use Rattle.std.proofs.lemmas.List.{length-append}
-use Rattle.log_schemes.specs.Layout.{bank_bytes, slot_at}
+use Rattle.std.proofs.lemmas.List.{map-append, length-append}
+use Rattle.log_schemes.specs.Layout.{bank_bytes, frame_at, slot_at}
 use Rattle.log_schemes.specs.declared.keeping.Keeping.{Keeping}
 use Rattle.log_schemes.specs.declared.keeping.Keeping.TheVariants.{Masked, Listed}
 use Rattle.log_schemes.specs.declared.log.Log.{Log}
-use Rattle.log_schemes.specs.Schemes.{keeping_of, listed_from, lock_slot, register_slot}
+use Rattle.log_schemes.specs.Schemes.{keeping_of, listed_from, lock_slot, register_slot, told}
 use Rattle.rv64_isa.specs.declared.instr.Instr.{Instr}
 use Rattle.rv64_isa.specs.declared.object.CodeItem.{CodeItem}
 use Rattle.rv64_isa.specs.declared.object.CodeItem.TheVariants.{Instruction}
@@ -16,7 +16,7 @@ use Rattle.rv64_isa.specs.Signed.{twos_complement}
 use Rattle.operator_code.specs.StraightLineCode.{effects, registers_after}
 use Rattle.operator_code.proofs.Public as s
 use Rattle.boundary_code.specs.Boundaries.{Boundary, IsOnSide, IsUnderWay, bank_effects, boundary_effects, commit_effects, first_kept, is_empty, keep_locks}
-use Rattle.boundary_code.specs.Boundaries.{lines_in_use, listed_locks, other_side, slots_kept}
+use Rattle.boundary_code.specs.Boundaries.{frame_lines, lines_in_use, listed_locks, other_side, pairs_kept, slots_kept}
 use Rattle.boundary_code.specs.links.BoundaryParts.{Closes, IsInParts, Opens, closing_effects, resume_address}
 use Rattle.boundary_code.proofs.Public.{kept_parts, lock_slots_few, stores_of}
 use Rattle.code_runs.specs.CodeTraces.{AreMemory, Does, GoesThrough, Observation, seen_effects}
@@ -27,7 +27,7 @@ use Rattle.node_code.specs.links.ItemLists.{plain}
 use Rattle.node_code.proofs.ItemAddresses.{part_left, part_right, waits_append, waits_left, waits_right, waits_plain}
 use Rattle.node_code.proofs.LinkedPartRuns.{waiting, code_end}
 use Rattle.node_code.proofs.LegComposition.{fragment, end_is, weaker, more_room, two_legs, moved, straight_leg, straight_leg_on}
-use Rattle.node_code.proofs.BoundaryPieces.{after_count, memory_both, stores_memory, cleans_memory, commit_memory}
+use Rattle.node_code.proofs.BoundaryPieces.{after_count, locks_memory, memory_both, stores_memory, cleans_memory, commit_memory}
 use Rattle.node_code.proofs.ListLegs.{kept, lock_parts, parts_are, plain_both, locks_leg}
 
 -- ---- Marks and lengths
@@ -84,22 +84,40 @@ module _ (b : Boundary) (x : List ℕ) where
       let other : ℕ = other_side side in
       let first : Effect = Stores (slot_at log thread other 0) 8 value in
       let listed : List Effect = stores_of log thread other (listed_from log 0 numbers) in
+      let telling : List Effect = stores_of log thread other (told log b.written) in
       let stored : List Effect = map (λ r. Stores (slot_at log thread other (register_slot log r)) 8 (read x r)) live in
-      let cleaned : List Effect = map (λ line. Cleans (slot_at log thread other (8 * line))) (lines_in_use log (slots_kept log b.locks live)) in
+      let cleaned : List Effect = map (λ line. Cleans (slot_at log thread other (8 * line))) (lines_in_use log (slots_kept log b.locks b.written live)) in
+      let framed : List Effect = map (λ line. Cleans (frame_at log thread (8 * line))) (frame_lines log b.opens) in
       let commit : List Effect = commit_effects log thread ((to + other) % 2 ^ 64) in
       ap (λ (z : Bool). if z then commit_effects log thread 0 else bank_effects b other x ++ commit) some
-      ∙ (ap (λ (ks : List (ℕ × ℕ)). ((stores_of log thread other ks ++ stored) ++ cleaned) ++ commit) (kept_parts (keeping_of log) log b.locks)
-      ∙ (ap (λ (es : List Effect). es ++ commit) (append_assoc (first ∷ listed) stored cleaned)
-      ∙ append_assoc (first ∷ listed) (stored ++ cleaned) commit))
+      ∙ regrouped first (stores_of log thread other (pairs_kept log b.locks b.written)) listed telling stored cleaned framed commit
+      (ap (λ (ks : List (ℕ × ℕ)). stores_of log thread other (ks ++ told log b.written)) (kept_parts (keeping_of log) log b.locks)
+      ∙ map-append (λ (k : ℕ × ℕ). Stores (slot_at log thread other k.0) 8 k.1) ((0, value) ∷ listed_from log 0 numbers) (told log b.written))
+    where
+      regrouped : (first : Effect) (all listed telling stored cleaned framed commit : List Effect) → all ≡ (first ∷ listed) ++ telling →
+          all ++ stored ++ cleaned ++ framed ++ commit ≡ first ∷ (listed ++ (telling ++ stored ++ cleaned ++ framed ++ commit))
+      regrouped first all listed telling stored cleaned framed commit e =
+          ap (λ (es : List Effect). es ++ stored ++ cleaned ++ framed ++ commit) e
+          ∙ (ap (λ (es : List Effect). es ++ cleaned ++ framed ++ commit) (append_assoc (first ∷ listed) telling stored)
+          ∙ (ap (λ (es : List Effect). es ++ framed ++ commit) (append_assoc (first ∷ listed) (telling ++ stored) cleaned)
+          ∙ (ap (λ (es : List Effect). es ++ commit) (append_assoc (first ∷ listed) (telling ++ stored ++ cleaned) framed)
+          ∙ append_assoc (first ∷ listed) (telling ++ stored ++ cleaned ++ framed) commit)))
 
   closing_memory : (bank to : ℕ) → AreMemory (closing_effects b bank to x)
   closing_memory bank to =
-      let lines : List ℕ = lines_in_use log (slots_kept log b.locks live) in
-      let stored : List Effect = map (λ r. Stores (slot_at log thread bank (register_slot log r)) 8 (read x r)) live in
-      let cleaned : List Effect = map (λ line. Cleans (slot_at log thread bank (8 * line))) lines in
-      memory_both (stored ++ cleaned) (commit_effects log thread ((to + bank) % 2 ^ 64))
-      (memory_both stored cleaned (stores_memory (λ r. slot_at log thread bank (register_slot log r)) (λ r. read x r) live)
-      (cleans_memory (λ line. slot_at log thread bank (8 * line)) lines))
+      let lines : List ℕ = lines_in_use log (slots_kept log b.locks b.written live) in
+      let at : ℕ → ℕ = slot_at log thread bank in
+      let telling : List Effect = stores_of log thread bank (told log b.written) in
+      let stored : List Effect = map (λ r. Stores (at (register_slot log r)) 8 (read x r)) live in
+      let cleaned : List Effect = map (λ line. Cleans (at (8 * line))) lines in
+      let framed : List Effect = map (λ line. Cleans (frame_at log thread (8 * line))) (frame_lines log b.opens) in
+      let commit : List Effect = commit_effects log thread ((to + bank) % 2 ^ 64) in
+      memory_both (telling ++ stored ++ cleaned ++ framed) commit
+      (memory_both (telling ++ stored ++ cleaned) framed
+      (memory_both (telling ++ stored) cleaned
+      (memory_both telling stored (locks_memory at (told log b.written)) (stores_memory (λ r. at (register_slot log r)) (λ r. read x r) live))
+      (cleans_memory (λ line. at (8 * line)) lines))
+      (cleans_memory (λ line. frame_at log thread (8 * line)) (frame_lines log b.opens)))
       (commit_memory log thread ((to + bank) % 2 ^ 64))
 
   closing_left : (closing : List Instr) (y : List ℕ) (pc side : ℕ) → is_empty b.locks ≡ false → Closes b closing → IsOnSide log side x →
@@ -166,7 +184,8 @@ module _ (b : Boundary) (x : List ℕ) where
 
     -- ---- The whole
 
-    module _ (codes : List (List Instr)) (code : List Instr) (list : IsInParts b codes code) (leave : LeaveNumbers log thread x numbers codes) where
+    module _ (codes : List (List Instr)) (code : List Instr) (list : IsInParts b codes code) (leave : LeaveNumbers n.environment.around log thread x numbers
+        codes) where
       abbrev middle : List CodeItem
       middle = lock_parts log 0 codes
 

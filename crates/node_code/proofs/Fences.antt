@@ -4,7 +4,7 @@ use Rattle.std.proofs.Common.{length, map, Some, refl, ap, sym, ◌∙◌, arith
 use Rattle.std.specs.Prelude.{slice_get, ◌==◌, if◌then◌else◌}
 use Rattle.std.proofs.lemmas.List.{length-append}
 use Rattle.std.proofs.lemmas.List.Sums.{sum_by-append, sum_by-cons}
-use Rattle.log_schemes.specs.Layout.{slot_at}
+use Rattle.log_schemes.specs.Layout.{frame_at, slot_at}
 use Rattle.rv64_isa.specs.declared.instr.Instr.{Instr}
 use Rattle.rv64_isa.specs.declared.instr.Instr.TheVariants.{Lui, Auipc, Jal, Jalr, Branch, Load, Store, OpImmediate}
 use Rattle.rv64_isa.specs.declared.instr.Instr.TheVariants.{ShiftImmediate, ShiftImmediateWord, Op, CboClean, Fence, Ecall}
@@ -17,8 +17,8 @@ use Rattle.rv64_link.specs.LabelledCode.{is_fence, one_if, fences_of, fences_in}
 use Rattle.rv64_link.specs.LinkedCode.{AreInstructions}
 use Rattle.rv64_link.proofs.Public.{no_instructions, more_instructions, within, some_at}
 use Rattle.boundary_code.specs.Boundaries.{Boundary, boundary_effects, bank_effects, first_kept}
-use Rattle.boundary_code.specs.Boundaries.{commit_effects, lines_in_use, slots_kept}
-use Rattle.log_schemes.specs.Schemes.{keeping_of, kept_locks, lock_slot, register_slot}
+use Rattle.boundary_code.specs.Boundaries.{commit_effects, frame_lines, lines_in_use, pairs_kept, slots_kept}
+use Rattle.log_schemes.specs.Schemes.{keeping_of, lock_slot, register_slot, told}
 use Rattle.boundary_code.specs.Boundaries.{IsUnderWay, keep_locks, other_side}
 use Rattle.boundary_code.specs.links.BoundaryParts.{Closes, DoesBoundary, HasEffects, IsInParts, Opens, closing_effects, in_parts, resume_address, undivided}
 use Rattle.operator_code.specs.StraightLineCode.{effects, registers_after, seen, left_by}
@@ -113,16 +113,20 @@ locks_have_none (k ∷ kept) address = let h = locks_have_none kept address in o
 bank_has_none : (b : Boundary) (bank : ℕ) (x : List ℕ) → fences_seen (bank_effects b bank x) ≡ 0
 bank_has_none b bank x =
     let at : ℕ → ℕ = slot_at b.log b.thread bank in
-    let lines : List ℕ = lines_in_use b.log (slots_kept b.log b.locks b.live) in
-    let locked = map (λ (k : ℕ × ℕ). Stores (at k.0) 8 k.1) (kept_locks b.log b.locks) in
+    let lines : List ℕ = lines_in_use b.log (slots_kept b.log b.locks b.written b.live) in
+    let kept = map (λ (k : ℕ × ℕ). Stores (at k.0) 8 k.1) (pairs_kept b.log b.locks b.written) in
     let stored = map (λ (r : ℕ). Stores (at (register_slot b.log r)) 8 (read x r)) b.live in
     let cleaned = map (λ (line : ℕ). Cleans (at (8 * line))) lines in
-    let zeroth : fences_seen locked ≡ 0 = locks_have_none (kept_locks b.log b.locks) at in
+    let framed = map (λ (line : ℕ). Cleans (frame_at b.log b.thread (8 * line))) (frame_lines b.log b.opens) in
+    let zeroth : fences_seen kept ≡ 0 = locks_have_none (pairs_kept b.log b.locks b.written) at in
     let first : fences_seen stored ≡ 0 = stores_have_none b.live (λ r. at (register_slot b.log r)) (read x) in
-    let last : fences_seen cleaned ≡ 0 = cleans_have_none lines (λ line. at (8 * line)) in
-    let both : fences_seen (locked ++ stored) ≡ fences_seen locked + fences_seen stored = seen_append locked stored in
-    let all : fences_seen ((locked ++ stored) ++ cleaned) ≡ fences_seen (locked ++ stored) + fences_seen cleaned = seen_append (locked ++ stored) cleaned in
-    omega (arith, zeroth, first, last, both, all)
+    let second : fences_seen cleaned ≡ 0 = cleans_have_none lines (λ line. at (8 * line)) in
+    let last : fences_seen framed ≡ 0 = cleans_have_none (frame_lines b.log b.opens) (λ line. frame_at b.log b.thread (8 * line)) in
+    let e : fences_seen (kept ++ stored) ≡ fences_seen kept + fences_seen stored = seen_append kept stored in
+    let f : fences_seen (kept ++ stored ++ cleaned) ≡ fences_seen (kept ++ stored) + fences_seen cleaned = seen_append (kept ++ stored) cleaned in
+    let g : fences_seen (kept ++ stored ++ cleaned ++ framed) ≡ fences_seen (kept ++ stored ++ cleaned) + fences_seen framed =
+    seen_append (kept ++ stored ++ cleaned) framed in
+    omega (arith, zeroth, first, second, last, e, f, g)
 
 two_seen : (b : Boundary) (side resume : ℕ) (x : List ℕ) → fences_seen (boundary_effects b side resume x) ≡ 2
 two_seen b side resume x = by (is_empty b.locks)
@@ -149,14 +153,23 @@ opening_fences log thread value code opens = sym (fences_are_seen code zeros 0) 
 closing_seen : (b : Boundary) (bank resume : ℕ) (x : List ℕ) → fences_seen (closing_effects b bank resume x) ≡ 2
 closing_seen b bank resume x =
     let at : ℕ → ℕ = slot_at b.log b.thread bank in
-    let lines : List ℕ = lines_in_use b.log (slots_kept b.log b.locks b.live) in
+    let lines : List ℕ = lines_in_use b.log (slots_kept b.log b.locks b.written b.live) in
+    let telling = map (λ (k : ℕ × ℕ). Stores (at k.0) 8 k.1) (told b.log b.written) in
     let stored = map (λ (r : ℕ). Stores (at (register_slot b.log r)) 8 (read x r)) b.live in
     let cleaned = map (λ (line : ℕ). Cleans (at (8 * line))) lines in
+    let framed = map (λ (line : ℕ). Cleans (frame_at b.log b.thread (8 * line))) (frame_lines b.log b.opens) in
+    let commit = commit_effects b.log b.thread ((resume + bank) % 2 ^ 64) in
+    let zeroth : fences_seen telling ≡ 0 = locks_have_none (told b.log b.written) at in
     let first : fences_seen stored ≡ 0 = stores_have_none b.live (λ r. at (register_slot b.log r)) (read x) in
     let second : fences_seen cleaned ≡ 0 = cleans_have_none lines (λ line. at (8 * line)) in
-    let both : fences_seen (stored ++ cleaned) ≡ fences_seen stored + fences_seen cleaned = seen_append stored cleaned in
-    let all = seen_append (stored ++ cleaned) (commit_effects b.log b.thread ((resume + bank) % 2 ^ 64)) in
-    omega (arith, first, second, both, all)
+    let third : fences_seen framed ≡ 0 = cleans_have_none (frame_lines b.log b.opens) (λ line. frame_at b.log b.thread (8 * line)) in
+    let e : fences_seen (telling ++ stored) ≡ fences_seen telling + fences_seen stored = seen_append telling stored in
+    let f : fences_seen (telling ++ stored ++ cleaned) ≡ fences_seen (telling ++ stored) + fences_seen cleaned = seen_append (telling ++ stored) cleaned in
+    let g : fences_seen (telling ++ stored ++ cleaned ++ framed) ≡ fences_seen (telling ++ stored ++ cleaned) + fences_seen framed =
+    seen_append (telling ++ stored ++ cleaned) framed in
+    let h : fences_seen (telling ++ stored ++ cleaned ++ framed ++ commit) ≡ fences_seen (telling ++ stored ++ cleaned ++ framed) + fences_seen commit =
+    seen_append (telling ++ stored ++ cleaned ++ framed) commit in
+    omega (arith, zeroth, first, second, third, e, f, g, h)
 
 closing_fences : (b : Boundary) (code : List Instr) (z : List ℕ) → Closes b code → IsUnderWay b.log b.thread (other_side 0) zeros z →
     fences_in (plain code) ≡ 2

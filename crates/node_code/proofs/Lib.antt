@@ -14,6 +14,7 @@ mod CodeLists
 mod MadeBoundaries
 mod JumpPieces
 mod ComputingPieces
+mod WritePieces
 mod PiecePlaces
 mod TwoPartPieces
 mod Fences

@@ -75,12 +75,13 @@ module _ (all : List CodeItem) (n : Linking all) where
 
   -- where it stands, it leaves one
   left_there : (k : ℕ) (code : List Instr) (p : IsPart all k (plain code)) (log : Log) (thread bank : ℕ) (x y : List ℕ) (number : ℕ) →
-      LeavesNumber log thread x number code → bank < 2 → IsUnderWay log thread bank x y → NumberLeft n.environment.around code log thread bank x y (at k) number
+      LeavesNumber n.environment.around log thread x number code → bank < 2 → IsUnderWay log thread bank x y →
+      NumberLeft n.environment.around code log thread bank x y (at k) number
   left_there k code p log thread bank x y number one below under =
       let end : at (k + length code) ≡ at k + 4 * length code = code_end all n k code p in
       let same : at (k + length code) ≡ at (k + length (plain code)) = end_is all n k code in
       let room : at (k + length (plain code)) < 2 ^ 64 = has_room all n k (plain code) p in
-      one.leaves n.environment.around bank y (at k) below under (stand all k code n p) (omega (arith, end, same, room))
+      one.leaves bank y (at k) below under (stand all k code n p) (omega (arith, end, same, room))
 
   -- ---- All of them
 
@@ -99,7 +100,8 @@ module _ (all : List CodeItem) (n : Linking all) where
         (number_stored log thread bank (lock_slot log index) x y number (at k) small below (slots index low) under is) (refl, tt)
 
     -- from registers within the boundary the slots get the numbers, in their order, and registers are within it still
-    pub locks_leg : (index : ℕ) (numbers : List ℕ) (codes : List (List Instr)) → index + length numbers ≤ most → LeaveNumbers log thread x numbers codes →
+    pub locks_leg : (index : ℕ) (numbers : List ℕ) (codes : List (List Instr)) → index + length numbers ≤ most →
+        LeaveNumbers n.environment.around log thread x numbers codes →
         (k : ℕ) (p : IsPart all k (lock_parts log index codes)) → mark_waits false p.before ≡ false → (y : List ℕ) → Under y →
         GoesThrough n.environment (fragment y (at k) (at (k + length (lock_parts log index codes))) (length (keep_locks log index codes)))
         (seen_effects (stores_of log thread bank (listed_from log index numbers))) Under

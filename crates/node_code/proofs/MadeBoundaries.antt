@@ -5,6 +5,7 @@ use Rattle.ido_base.specs.Locks.{locks_in}
 use Rattle.rv64_isa.specs.declared.object.CodeItem.{CodeItem}
 use Rattle.boundary_code.specs.Boundaries.{Boundary, is_empty}
 use Rattle.boundary_code.proofs.Public.{empty_where}
+use Rattle.code_runs.specs.ComputingRuns.{Environment}
 use Rattle.node_code.specs.Pieces.{IsBoundaryPiece, IsLockPiece, IsUnlockPiece}
 
 -- ---- No lock
@@ -18,7 +19,8 @@ none_in mask locks small are = ap is_empty are ∙ empty_where mask small
 
 -- ---- Fewer registers, and more words
 
-pub boundary_from : (b : Boundary) (P Q : List ℕ → Type 0) (least most : ℕ) (piece : List CodeItem) → ((x : List ℕ) → Q x → P x) → least ≤ most →
+pub boundary_from : (b : Boundary) (P Q : Environment → List ℕ → Type 0) (least most : ℕ) (piece : List CodeItem) → ((around : Environment) (x : List ℕ) →
+    Q around x → P around x) → least ≤ most →
     IsBoundaryPiece b P least piece → IsBoundaryPiece b Q most piece
 boundary_from b P Q least most piece fewer le is = record {
   closed = is.closed;
@@ -27,12 +29,13 @@ boundary_from b P Q least most piece fewer le is = record {
   cleans = is.cleans;
   at = λ at.
       let own = is.at at in
-      record { keeps = λ x side from on. own.keeps x side (fewer x from) on; marks = own.marks; resumes = own.resumes };
+      record { keeps = λ x side from on. own.keeps x side (fewer at.linking.environment.around x from) on; marks = own.marks; resumes = own.resumes };
 }
 
 -- A and B ask for the call, P and Q are with the boundary
-module _ (b : Boundary) (A B P Q : List ℕ → Type 0) (least most lock : ℕ) (piece : List CodeItem) (le : least ≤ most) where
-  pub lock_from : ((x : List ℕ) → B x → A x) → ((x : List ℕ) → Q x → P x) → IsLockPiece b A P least lock piece → IsLockPiece b B Q most lock piece
+module _ (b : Boundary) (A B P Q : Environment → List ℕ → Type 0) (least most lock : ℕ) (piece : List CodeItem) (le : least ≤ most) where
+  pub lock_from : ((around : Environment) (x : List ℕ) → B around x → A around x) → ((around : Environment) (x : List ℕ) → Q around x → P around x) →
+      IsLockPiece b A P least lock piece → IsLockPiece b B Q most lock piece
   lock_from asking keeping is = record {
     closed = is.closed;
     few = let few = is.few in omega (arith, few, le);
@@ -43,15 +46,16 @@ module _ (b : Boundary) (A B P Q : List ℕ → Type 0) (least most lock : ℕ) 
         record {
           call = own.call;
           calling = own.calling;
-          asks = λ x from are. own.asks x (asking x from) are;
+          asks = λ x from are. own.asks x (asking at.linking.environment.around x from) are;
           stands = own.stands;
-          keeps = λ x side from on. own.keeps x side (keeping x from) on;
+          keeps = λ x side from on. own.keeps x side (keeping at.linking.environment.around x from) on;
           marks = own.marks;
           resumes = own.resumes;
         };
   }
 
-  pub unlock_from : ((x : List ℕ) → B x → A x) → ((x : List ℕ) → Q x → P x) → IsUnlockPiece b A P least lock piece → IsUnlockPiece b B Q most lock piece
+  pub unlock_from : ((around : Environment) (x : List ℕ) → B around x → A around x) → ((around : Environment) (x : List ℕ) → Q around x → P around x) →
+      IsUnlockPiece b A P least lock piece → IsUnlockPiece b B Q most lock piece
   unlock_from asking keeping is = record {
     closed = is.closed;
     few = let few = is.few in omega (arith, few, le);
@@ -62,7 +66,7 @@ module _ (b : Boundary) (A B P Q : List ℕ → Type 0) (least most lock : ℕ) 
         record {
           call = own.call;
           calling = own.calling;
-          asks = λ x side from kept on. own.asks x side (asking x from) (keeping x kept) on;
+          asks = λ x side from kept on. own.asks x side (asking at.linking.environment.around x from) (keeping at.linking.environment.around x kept) on;
           stands = own.stands;
           after = own.after;
           plain = own.plain;

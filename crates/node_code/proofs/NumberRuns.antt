@@ -51,9 +51,10 @@ number_under log thread bank x y number under = record {
       get_or-set_other y 5 q number 0 apart ∙ under.others q plain other;
 }
 
-pub constant_leaves : (log : Log) (thread : ℕ) (x : List ℕ) (number : ℕ) → number < 2048 → LeavesNumber log thread x number (number_code number)
-constant_leaves log thread x number small = record {
-  leaves = λ around bank y address below under stands room.
+pub constant_leaves : (around : r.Environment) (log : Log) (thread : ℕ) (x : List ℕ) (number : ℕ) → number < 2048 →
+    LeavesNumber around log thread x number (number_code number)
+constant_leaves around log thread x number small = record {
+  leaves = λ bank y address below under stands room.
       let i : Instr = OpImmediate Addi 5 0 number in
       let z : List ℕ = slice_set y 5 number in
       let low : address + 4 < 2 ^ 64 = omega (arith, room) in

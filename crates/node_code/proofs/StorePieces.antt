@@ -20,7 +20,8 @@ use Rattle.node_code.proofs.Words.{exact_words}
 use Rattle.node_code.proofs.LinkedPartRuns.{stays_at, stands_part}
 use Rattle.node_code.proofs.LegComposition.{fragment, more_room, marked_leg, mark_part}
 
-store_row : (kind : StoreKind) (x : List ℕ) (pc : ℕ) → read x 28 < 2 ^ 64 → row (Store kind 29 28 0) x pc ≡ Stores (read x 28) (store_bytes kind) (read x 29)
+pub store_row : (kind : StoreKind) (x : List ℕ) (pc : ℕ) → read x 28 < 2 ^ 64 →
+    row (Store kind 29 28 0) x pc ≡ Stores (read x 28) (store_bytes kind) (read x 29)
 unfolding row
 store_row kind x pc h = let e : displaced (read x 28) 12 0 ≡ read x 28 = displaced_small (read x 28) 0 (lit< tt) (omega (arith, h)) ∙ omega arith in
     ap (λ (a : ℕ). Stores a (store_bytes kind) (read x 29)) e
@@ -35,7 +36,7 @@ store_effects address bytes value cleans = Stores address bytes value ∷ (if cl
 abbrev AreMemoryOf : Bool → Type 0
 AreMemoryOf cleans = (address bytes value : ℕ) → AreMemory (store_effects address bytes value cleans)
 
-store_runs : (kind : StoreKind) (cleans : Bool) (x : List ℕ) (pc : ℕ) → read x 28 < 2 ^ 64 →
+pub store_runs : (kind : StoreKind) (cleans : Bool) (x : List ℕ) (pc : ℕ) → read x 28 < 2 ^ 64 →
     s.RunsFrom (store_code kind cleans) x pc (store_effects (read x 28) (store_bytes kind) (read x 29) cleans) x
 store_runs kind true x pc h = s.store (Store kind 29 28 0) (CboClean 28 ∷ []) x pc (read x 28) (store_bytes kind) (read x 29) (Cleans (read x 28) ∷ []) x
     (store_row kind x pc h)

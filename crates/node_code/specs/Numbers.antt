@@ -18,17 +18,18 @@ pub record NumberLeft (around : Environment) (code : List Instr) (log : Log) (th
   pub number_is : read registers 5 ≡ number
   pub under_way : IsUnderWay log thread bank x registers
 
--- it does, in whatever boundary of the thread that is begun with x, wherever it stands and whatever stands around it
-pub record LeavesNumber (log : Log) (thread : ℕ) (x : List ℕ) (number : ℕ) (code : List Instr) : Type 0 where
-  pub leaves : (around : Environment) (bank : ℕ) (y : List ℕ) (address : ℕ) → bank < 2 → IsUnderWay log thread bank x y →
+-- it does, in whatever boundary of the thread that is begun with x, wherever it stands in what is around it
+pub record LeavesNumber (around : Environment) (log : Log) (thread : ℕ) (x : List ℕ) (number : ℕ) (code : List Instr) : Type 0 where
+  pub leaves : (bank : ℕ) (y : List ℕ) (address : ℕ) → bank < 2 → IsUnderWay log thread bank x y →
       HasCodeAt around address code → address + 4 * length code < 2 ^ 64 → NumberLeft around code log thread bank x y address number
 
 -- each of the lists of instructions leaves the number at its place
-abbrev pub LeaveNumbers : Log → (thread : ℕ) → (x : List ℕ) → (numbers : List ℕ) → (codes : List (List Instr)) → Type 0
-LeaveNumbers log thread x [] [] = Unit {0}
-LeaveNumbers log thread x [] (code ∷ codes) = ⊥
-LeaveNumbers log thread x (number ∷ numbers) [] = ⊥
-LeaveNumbers log thread x (number ∷ numbers) (code ∷ codes) = LeavesNumber log thread x number code × LeaveNumbers log thread x numbers codes
+abbrev pub LeaveNumbers : (around : Environment) → Log → (thread : ℕ) → (x : List ℕ) → (numbers : List ℕ) → (codes : List (List Instr)) → Type 0
+LeaveNumbers around log thread x [] [] = Unit {0}
+LeaveNumbers around log thread x [] (code ∷ codes) = ⊥
+LeaveNumbers around log thread x (number ∷ numbers) [] = ⊥
+LeaveNumbers around log thread x (number ∷ numbers) (code ∷ codes) =
+    LeavesNumber around log thread x number code × LeaveNumbers around log thread x numbers codes
 
 -- ---- For a call
 
@@ -46,13 +47,13 @@ pub record NumberAsked (around : Environment) (code : List Instr) (y : List ℕ)
 abbrev pub IsSame : (x y : List ℕ) → Type 0
 IsSame x y = (r : ℕ) → is_temporary r ≡ false → r ≢ bank_offset → read y r ≡ read x r
 
--- it does, from whatever registers that are x but for these, wherever it stands and whatever stands around it
-pub record AsksNumber (x : List ℕ) (number : ℕ) (code : List Instr) : Type 0 where
-  pub asks : (around : Environment) (y : List ℕ) (address : ℕ) → AreRegisters y → IsSame x y → HasCodeAt around address code →
+-- it does, from whatever registers that are x but for these, wherever it stands in what is around it
+pub record AsksNumber (around : Environment) (x : List ℕ) (number : ℕ) (code : List Instr) : Type 0 where
+  pub asks : (y : List ℕ) (address : ℕ) → AreRegisters y → IsSame x y → HasCodeAt around address code →
       address + 4 * length code < 2 ^ 64 → NumberAsked around code y address number
 
 -- ---- In a boundary
 
 -- registers from which codes leave the numbers of those locks that the log lists
-abbrev pub LeaveLocks : Log → (thread : ℕ) → (locks : List ℕ) → (codes : List (List Instr)) → (x : List ℕ) → Type 0
-LeaveLocks log thread locks codes x = LeaveNumbers log thread x (listed_locks (keeping_of log) locks) codes
+abbrev pub LeaveLocks : Log → (thread : ℕ) → (locks : List ℕ) → (codes : List (List Instr)) → (around : Environment) → (x : List ℕ) → Type 0
+LeaveLocks log thread locks codes around x = LeaveNumbers around log thread x (listed_locks (keeping_of log) locks) codes

@@ -7,7 +7,8 @@ use Rattle.ido_base.specs.Locks.{locks_in}
 use Rattle.ido_ints.specs.declared.kinds.Kind.{Kind}
 use Rattle.ido_ints.specs.Kinds.{bytes_of}
 use Rattle.rv64_isa.specs.declared.instr.Instr.{Instr}
-use Rattle.rv64_isa.specs.declared.instr.Instr.TheVariants.{Ecall}
+use Rattle.rv64_isa.specs.declared.instr.Instr.TheVariants.{Ecall, Store}
+use Rattle.rv64_isa.specs.declared.instr.StoreKind.TheVariants.{Sd}
 use Rattle.rv64_isa.specs.declared.object.CodeItem.{CodeItem}
 use Rattle.rv64_isa.specs.declared.object.CodeItem.TheVariants.{Instruction}
 use Rattle.rv64_isa.specs.Rows.{Stores, Cleans, row, read}
@@ -100,11 +101,19 @@ MayKeep (Numbers numbers) locks = length locks ≡ length numbers.now
 
 -- the boundary that keeps these locks, and resumes so many bytes after its end
 abbrev pub boundary_of : kept.Kept → (locks : List ℕ) → (resume : ℕ) → Boundary
-boundary_of k locks resume = record { log = k.log; thread = k.thread; locks = locks; live = k.live.now; resume = pos resume }
+boundary_of k locks resume = record {
+  log = k.log;
+  thread = k.thread;
+  locks = locks;
+  live = k.live.now;
+  resume = pos resume;
+  written = k.written.bytes;
+  opens = k.written.opens;
+}
 
 -- registers with which its codes leave the numbers of these locks
-abbrev pub KeepsFrom : kept.Kept → (locks : List ℕ) → (x : List ℕ) → Type 0
-KeepsFrom k locks x = LeaveLocks k.log k.thread locks (codes_of k.locks) x
+abbrev pub KeepsFrom : kept.Kept → (locks : List ℕ) → (around : Environment) → (x : List ℕ) → Type 0
+KeepsFrom k locks around x = LeaveLocks k.log k.thread locks (codes_of k.locks) around x
 
 -- how many words it has at most, beside one for each live register
 abbrev pub kept_words : kept.Kept → ℕ
@@ -119,14 +128,14 @@ pub record LeavesRegisters (b : Boundary) (side : ℕ) (x y : List ℕ) : Type 0
   pub others : (r : ℕ) → is_temporary r ≡ false → r ≢ roles.bank_offset → read y r ≡ read x r
 
 -- from registers that have the property the point gets the address of the piece's end, from where the thread may be resumed
-pub record Keeps (b : Boundary) (from : List ℕ → Type 0) (piece : List CodeItem) (at : Site piece) : Type 0 where
-  pub keeps : (x : List ℕ) (side : ℕ) → from x → IsOnSide b.log side x →
+pub record Keeps (b : Boundary) (from : Environment → List ℕ → Type 0) (piece : List CodeItem) (at : Site piece) : Type 0 where
+  pub keeps : (x : List ℕ) (side : ℕ) → from at.linking.environment.around x → IsOnSide b.log side x →
       PieceLeads at x (begin_of piece at) (end_of piece at) (boundary_observations b side (end_of piece at) x) (LeavesRegisters b side x)
   pub marks : marks_in piece at ≡ []
   pub resumes : resumes_in piece at ≡ end_of piece at ∷ []
 
 -- so many words it has at most, beside one for each live register
-pub record IsBoundaryPiece (b : Boundary) (from : List ℕ → Type 0) (words : ℕ) (piece : List CodeItem) : Type 0 where
+pub record IsBoundaryPiece (b : Boundary) (from : Environment → List ℕ → Type 0) (words : ℕ) (piece : List CodeItem) : Type 0 where
   pub closed : IsClosed piece
   pub few : sum_by most_words_of piece ≤ length b.live + words
   pub fences : fences_in piece ≡ 2
@@ -158,18 +167,18 @@ pub record Asks (number lock : ℕ) (x y : List ℕ) : Type 0 where
   pub others : (r : ℕ) → is_temporary r ≡ false → r ≢ roles.lock → r ≢ roles.call → read y r ≡ read x r
 
 -- the call is the mark; after it stands a boundary. Registers with which the call is asked for have the one property, those after it the other
-pub record Locks (b : Boundary) (asking from : List ℕ → Type 0) (lock : ℕ) (piece : List CodeItem) (at : Site piece) : Type 0 where
+pub record Locks (b : Boundary) (asking from : Environment → List ℕ → Type 0) (lock : ℕ) (piece : List CodeItem) (at : Site piece) : Type 0 where
   pub call : ℕ
   -- it takes three words, with those that set its registers
   pub calling : 3 ≤ words_in piece at
-  pub asks : (x : List ℕ) → asking x → AreRegisters x → PieceLeads at x (begin_of piece at) call [] (Asks takes lock x)
+  pub asks : (x : List ℕ) → asking at.linking.environment.around x → AreRegisters x → PieceLeads at x (begin_of piece at) call [] (Asks takes lock x)
   pub stands : IsInstructionAt at.linking.program.start at.linking.program.code call Ecall
-  pub keeps : (x : List ℕ) (side : ℕ) → from x → IsOnSide b.log side x →
+  pub keeps : (x : List ℕ) (side : ℕ) → from at.linking.environment.around x → IsOnSide b.log side x →
       PieceLeads at x (call + 4) (end_of piece at) (boundary_observations b side (end_of piece at) x) (LeavesRegisters b side x)
   pub marks : marks_in piece at ≡ call ∷ []
   pub resumes : resumes_in piece at ≡ end_of piece at ∷ []
 
-pub record IsLockPiece (b : Boundary) (asking from : List ℕ → Type 0) (words lock : ℕ) (piece : List CodeItem) : Type 0 where
+pub record IsLockPiece (b : Boundary) (asking from : Environment → List ℕ → Type 0) (words lock : ℕ) (piece : List CodeItem) : Type 0 where
   pub closed : IsClosed piece
   pub few : sum_by most_words_of piece ≤ length b.live + words + 2
   pub fences : fences_in piece ≡ 2
@@ -180,15 +189,15 @@ pub record IsLockPiece (b : Boundary) (asking from : List ℕ → Type 0) (words
 abbrev pub IsLockOf : kept.Kept → (numbering : List Instr) → (piece : List CodeItem) → Type 0
 IsLockOf k numbering piece =
     (locks : List ℕ) (lock : ℕ) → MayKeep k.locks locks →
-    IsLockPiece (boundary_of k locks 0) (λ x. AsksNumber x lock numbering) (KeepsFrom k locks) (kept_words k + length numbering) lock piece
+    IsLockPiece (boundary_of k locks 0) (λ around x. AsksNumber around x lock numbering) (KeepsFrom k locks) (kept_words k + length numbering) lock piece
 
 -- first the mark and a boundary, then the call, which is no mark; the point gets the address after the call, where the thread may be resumed if it still
 -- holds a lock
-pub record Unlocks (b : Boundary) (asking from : List ℕ → Type 0) (lock : ℕ) (piece : List CodeItem) (at : Site piece) : Type 0 where
+pub record Unlocks (b : Boundary) (asking from : Environment → List ℕ → Type 0) (lock : ℕ) (piece : List CodeItem) (at : Site piece) : Type 0 where
   pub call : ℕ
   -- it takes three words, with those that set its registers
   pub calling : 3 ≤ words_in piece at
-  pub asks : (x : List ℕ) (side : ℕ) → asking x → from x → IsOnSide b.log side x →
+  pub asks : (x : List ℕ) (side : ℕ) → asking at.linking.environment.around x → from at.linking.environment.around x → IsOnSide b.log side x →
       PieceLeads at x (begin_of piece at) call (Mark ∷ boundary_observations b side (end_of piece at) x)
       (λ y. (z : List ℕ) × LeavesRegisters b side x z × Asks gives lock z y)
   pub stands : IsInstructionAt at.linking.program.start at.linking.program.code call Ecall
@@ -197,7 +206,7 @@ pub record Unlocks (b : Boundary) (asking from : List ℕ → Type 0) (lock : �
   pub marks : marks_in piece at ≡ begin_of piece at ∷ []
   pub resumes : resumes_in piece at ≡ (if is_empty b.locks then [] else end_of piece at ∷ [])
 
-pub record IsUnlockPiece (b : Boundary) (asking from : List ℕ → Type 0) (words lock : ℕ) (piece : List CodeItem) : Type 0 where
+pub record IsUnlockPiece (b : Boundary) (asking from : Environment → List ℕ → Type 0) (words lock : ℕ) (piece : List CodeItem) : Type 0 where
   pub closed : IsClosed piece
   pub few : sum_by most_words_of piece ≤ length b.live + words + 2
   pub fences : fences_in piece ≡ 2
@@ -211,7 +220,8 @@ giving_bytes numbering = 4 * length numbering + 8
 abbrev pub IsUnlockOf : kept.Kept → (numbering : List Instr) → (piece : List CodeItem) → Type 0
 IsUnlockOf k numbering piece =
     (locks : List ℕ) (lock : ℕ) → MayKeep k.locks locks →
-    IsUnlockPiece (boundary_of k locks (giving_bytes numbering)) (λ x. AsksNumber x lock numbering) (KeepsFrom k locks) (kept_words k + length numbering) lock
+    IsUnlockPiece (boundary_of k locks (giving_bytes numbering)) (λ around x. AsksNumber around x lock numbering) (KeepsFrom k locks) (kept_words k + length
+    numbering) lock
     piece
 
 pub record IsEndPiece (piece : List CodeItem) (at : Site piece) : Type 0 where
@@ -252,6 +262,46 @@ pub record IsComputing (code : List Instr) (piece : List CodeItem) : Type 0 wher
   pub fences : fences_in piece ≡ fences_in (map Instruction code)
   pub cleans : cleans_in piece ≡ cleans_in (map Instruction code)
   pub at : (at : Site piece) → Computes code piece at
+
+-- code that only computes, without a mark
+pub record ComputesOn (code : List Instr) (piece : List CodeItem) (at : Site piece) : Type 0 where
+  pub stands : r.HasCodeAt at.linking.environment.around (begin_of piece at) code
+  pub room : begin_of piece at + 4 * length code < 2 ^ 64
+  pub computes : (x y : List ℕ) → Computed at.linking.environment.around code (begin_of piece at) x y →
+      PieceLeads at x (begin_of piece at) (end_of piece at) [] (λ z. z ≡ y)
+  pub marks : marks_in piece at ≡ []
+  pub resumes : resumes_in piece at ≡ []
+
+pub record IsUnmarked (code : List Instr) (piece : List CodeItem) : Type 0 where
+  pub closed : IsClosed piece
+  pub few : sum_by most_words_of piece ≤ length code
+  pub fences : fences_in piece ≡ fences_in (map Instruction code)
+  pub cleans : cleans_in piece ≡ cleans_in (map Instruction code)
+  pub at : (at : Site piece) → ComputesOn code piece at
+
+-- the mark, code that only computes, and the store of eight bytes that is pending then, which is no mark, and whose line isn't cleaned
+pub record ComputesThenStores (code : List Instr) (piece : List CodeItem) (at : Site piece) : Type 0 where
+  pub store : ℕ
+  pub has_code : r.HasCodeAt at.linking.environment.around (begin_of piece at) code
+  pub room : begin_of piece at + 4 * length code < 2 ^ 64
+  pub computes : (x y : List ℕ) → Computed at.linking.environment.around code (begin_of piece at) x y →
+      PieceLeads at x (begin_of piece at) store (Mark ∷ []) (λ z. z ≡ y)
+  pub stands : IsInstructionAt at.linking.program.start at.linking.program.code store (Store Sd roles.pending_value roles.pending_address 0)
+  pub does : (x : List ℕ) → read x roles.pending_address < 2 ^ 64 →
+      row (Store Sd roles.pending_value roles.pending_address 0) x store ≡ Stores (read x roles.pending_address) 8 (read x roles.pending_value)
+  pub stores : (x : List ℕ) → read x roles.pending_address < 2 ^ 64 →
+      PieceLeads at x store (end_of piece at) (Does (Stores (read x roles.pending_address) 8 (read x roles.pending_value)) ∷ []) (λ y. y ≡ x)
+  pub after : end_of piece at ≡ store + 4
+  pub plain : marked at.linking.program.nodes store ≡ []
+  pub marks : marks_in piece at ≡ begin_of piece at ∷ []
+  pub resumes : resumes_in piece at ≡ []
+
+pub record IsPlainWrite (code : List Instr) (piece : List CodeItem) : Type 0 where
+  pub closed : IsClosed piece
+  pub few : sum_by most_words_of piece ≤ length code + 2
+  pub fences : fences_in piece ≡ fences_in (map Instruction code)
+  pub cleans : cleans_in piece ≡ cleans_in (map Instruction code)
+  pub at : (at : Site piece) → ComputesThenStores code piece at
 
 -- the mark, code that only computes, and a branch to the label, which is taken where the test is passed after the code
 pub record Chooses (code : List Instr) (test : Test) (label : ℕ) (piece : List CodeItem) (at : Site piece) : Type 0 where

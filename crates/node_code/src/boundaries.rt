@@ -1,9 +1,8 @@
 //! Boundaries.
-ghost use Rattle.std.specs.Prelude.{◌≡◌, ◌<◌, ◌≤◌, ◌++◌, IsTrue, IfOk, OnOk, pos, length};
+ghost use Rattle.std.specs.Prelude.{ℕ, Some, ◌≡◌, ◌<◌, ◌≤◌, ◌++◌, IsTrue, IfOk, OnOk, pos, length};
 ghost use Rattle.std.specs.List.{list_all, AllByRecursion};
 ghost use Rattle.ido_base.specs.declared.limits.TheConstants.{MOST_THREADS};
-ghost use Rattle.log_schemes.specs.Schemes.{keeping_of};
-ghost use Rattle.memory_layout.specs.Roles.{is_kept};
+ghost use Rattle.log_schemes.specs.Schemes.{keeping_of, may_keep};
 ghost use Rattle.node_code.specs.BoundaryCode.{IsQuiet};
 ghost use Rattle.node_code.specs.declared.kept.KeptLocks.TheVariants.{Mask, Numbers};
 ghost use Rattle.node_code.specs.Pieces.{Appends, IsBoundaryOf, codes_of, keeping_for};
@@ -31,7 +30,8 @@ fn mask_code(alloc: Global, kept: &Kept, mask: u64, resume: u32) -> Result<Vec<I
     requires locks { kept.now.locks ≡ Mask mask }
     requires keeping { keeping_of kept.now.log ≡ keeping_for kept.now.locks }
     requires thread { kept.now.thread < MOST_THREADS }
-    requires live { IsTrue (list_all is_kept kept.now.live.now) }
+    requires live { IsTrue (list_all (may_keep kept.now.log) kept.now.live.now) }
+    requires bytes { (bytes : ℕ) → kept.now.written.bytes ≡ Some bytes → bytes ≤ 8 }
     requires near { resume ≤ 262144 }
     ensures { IfOk result (λ code. IsCodeFor kept.now resume code.items) }
 {
@@ -41,6 +41,7 @@ fn mask_code(alloc: Global, kept: &Kept, mask: u64, resume: u32) -> Result<Vec<I
         kept.thread,
         mask,
         kept.live,
+        kept.written,
         distance(resume),
     )?;
     Ok(code)
@@ -56,7 +57,8 @@ fn list_code(
     requires locks { kept.now.locks ≡ Numbers numbers }
     requires keeping { keeping_of kept.now.log ≡ keeping_for kept.now.locks }
     requires thread { kept.now.thread < MOST_THREADS }
-    requires live { IsTrue (list_all is_kept kept.now.live.now) }
+    requires live { IsTrue (list_all (may_keep kept.now.log) kept.now.live.now) }
+    requires bytes { (bytes : ℕ) → kept.now.written.bytes ≡ Some bytes → bytes ≤ 8 }
     requires room { length (codes_of kept.now.locks) ≤ 16 }
     requires quiet { AllByRecursion IsQuiet (codes_of kept.now.locks) }
     requires near { resume ≤ 262144 }
@@ -68,6 +70,7 @@ fn list_code(
         kept.thread,
         numbers,
         kept.live,
+        kept.written,
         distance(resume),
     )?;
     Ok(code)
@@ -81,7 +84,8 @@ pub(crate) fn boundary_code(
 ) -> Result<Vec<Instr>, OutOfMemory>
     requires keeping { keeping_of kept.now.log ≡ keeping_for kept.now.locks }
     requires thread { kept.now.thread < MOST_THREADS }
-    requires live { IsTrue (list_all is_kept kept.now.live.now) }
+    requires live { IsTrue (list_all (may_keep kept.now.log) kept.now.live.now) }
+    requires bytes { (bytes : ℕ) → kept.now.written.bytes ≡ Some bytes → bytes ≤ 8 }
     requires room { length (codes_of kept.now.locks) ≤ 16 }
     requires quiet { AllByRecursion IsQuiet (codes_of kept.now.locks) }
     requires near { resume ≤ 262144 }
@@ -110,7 +114,8 @@ pub fn push_boundary(
 ) -> Result<(), OutOfMemory>
     requires keeping { keeping_of kept.now.log ≡ keeping_for kept.now.locks }
     requires thread { kept.now.thread < MOST_THREADS }
-    requires live { IsTrue (list_all is_kept kept.now.live.now) }
+    requires live { IsTrue (list_all (may_keep kept.now.log) kept.now.live.now) }
+    requires bytes { (bytes : ℕ) → kept.now.written.bytes ≡ Some bytes → bytes ≤ 8 }
     requires room { length (codes_of kept.now.locks) ≤ 16 }
     requires quiet { AllByRecursion IsQuiet (codes_of kept.now.locks) }
     ensures { OnOk result (Appends items.old.items items.new.items (IsBoundaryOf kept.now)) }

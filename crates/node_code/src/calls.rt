@@ -1,9 +1,9 @@
 //! Calls: a lock is taken or given back, a thread ends.
-ghost use Rattle.std.specs.Prelude.{◌≡◌, ◌<◌, ◌≤◌, ◌++◌, IsTrue, OnOk, length};
+ghost use Rattle.std.specs.Prelude.{ℕ, Some, ◌≡◌, ◌<◌, ◌≤◌, ◌++◌, IsTrue, OnOk, length};
 ghost use Rattle.std.specs.List.{list_all, AllByRecursion};
 ghost use Rattle.ido_base.specs.declared.limits.TheConstants.{MOST_THREADS};
 ghost use Rattle.log_schemes.specs.Schemes.{keeping_of};
-ghost use Rattle.memory_layout.specs.Roles.{is_kept};
+ghost use Rattle.log_schemes.specs.Schemes.{may_keep};
 ghost use Rattle.node_code.specs.BoundaryCode.{IsQuiet};
 ghost use Rattle.node_code.specs.Pieces.{Appends, IsLockOf, IsUnlockOf, IsEnd, codes_of, giving_bytes, keeping_for};
 ghost use Rattle.node_code.specs.links.ItemLists.{asking_items, lock_items, unlock_items, end_items};
@@ -96,7 +96,8 @@ pub fn push_lock(
 ) -> Result<(), OutOfMemory>
     requires keeping { keeping_of kept.now.log ≡ keeping_for kept.now.locks }
     requires thread { kept.now.thread < MOST_THREADS }
-    requires live { IsTrue (list_all is_kept kept.now.live.now) }
+    requires live { IsTrue (list_all (may_keep kept.now.log) kept.now.live.now) }
+    requires bytes { (bytes : ℕ) → kept.now.written.bytes ≡ Some bytes → bytes ≤ 8 }
     requires room { length (codes_of kept.now.locks) ≤ 16 }
     requires quiet { AllByRecursion IsQuiet (codes_of kept.now.locks) }
     requires some { 1 ≤ length numbering.now }
@@ -126,7 +127,8 @@ pub fn push_unlock(
 ) -> Result<(), OutOfMemory>
     requires keeping { keeping_of kept.now.log ≡ keeping_for kept.now.locks }
     requires thread { kept.now.thread < MOST_THREADS }
-    requires live { IsTrue (list_all is_kept kept.now.live.now) }
+    requires live { IsTrue (list_all (may_keep kept.now.log) kept.now.live.now) }
+    requires bytes { (bytes : ℕ) → kept.now.written.bytes ≡ Some bytes → bytes ≤ 8 }
     requires room { length (codes_of kept.now.locks) ≤ 16 }
     requires quiet { AllByRecursion IsQuiet (codes_of kept.now.locks) }
     requires some { 1 ≤ length numbering.now }

@@ -3,6 +3,7 @@ ghost use Rattle.std.specs.Prelude.{◌≡◌, ℕ, List};
 ghost use Rattle.boundary_code.specs.Boundaries.{is_empty};
 ghost use Rattle.node_code.specs.Pieces.{MayKeep};
 
+use boundary_code::Written;
 use log_schemes::log::Log;
 use rv64_isa::field::Register;
 use rv64_isa::instr::Instr;
@@ -39,4 +40,6 @@ pub struct Kept<'a> {
     pub locks: KeptLocks<'a>,
     /// The registers that are live after it, each that of a local or one of the pending store.
     pub live: &'a [Register],
+    /// What it says of the write that comes next.
+    pub written: Written,
 }

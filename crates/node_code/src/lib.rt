@@ -15,7 +15,7 @@ mod stores;
 
 pub use boundaries::push_boundary;
 pub use calls::{push_end, push_lock, push_unlock};
-pub use evaluation::{push_choice, push_computing};
+pub use evaluation::{push_choice, push_computing, push_plain_write, push_unmarked};
 pub use jumps::{push_branch, push_jump};
 pub use kept::{Kept, KeptLocks};
 pub use stores::push_store;

@@ -5,6 +5,7 @@ ghost use Rattle.rv64_isa.specs.Rows.{store_bytes};
 ghost use Rattle.node_code.specs.Pieces.{Appends, IsStorePiece};
 ghost use Rattle.node_code.specs.links.ItemLists.{store_items};
 
+use crate::items::push_plain;
 use ido_base::memory::OutOfMemory;
 use ido_ints::Kind;
 use rv64_isa::field::{Immediate, Register};

@@ -9,7 +9,7 @@ use Rattle.std.proofs.lemmas.List.{append-nil, nil_from_length}
 use Rattle.std.proofs.lemmas.List.Elements.{All-from_recursion}
 use Rattle.ido_base.specs.declared.limits.TheConstants.{MOST_THREADS, MOST_VARIABLE_BYTES, MOST_CODE_WORDS}
 use Rattle.log_schemes.specs.declared.log.Log.{Log}
-use Rattle.log_schemes.specs.declared.log.Log.TheVariants.{V1, V2}
+use Rattle.log_schemes.specs.declared.log.Log.TheVariants.{V1, V2, Justdo}
 use Rattle.rv64_isa.specs.Formats.{decoded}
 use Rattle.machine_model.specs.declared.object.Object.{Object}
 use Rattle.file_fields.specs.declared.error.ReadError.{ReadError}
@@ -54,33 +54,47 @@ initial_again total text rest good =
 
 -- ---- The version
 
-abbrev chosen : (first second : Bool) → (rest : List ℕ) → Result (Log × List ℕ) Fault
-chosen first second rest = cond first (Ok (V1, rest)) (cond second (Ok (V2, rest)) (Err Version))
+abbrev chosen : (first second third : Bool) → (rest : List ℕ) → Result (Log × List ℕ) Fault
+chosen first second third rest = cond first (Ok (V1, rest)) (cond second (Ok (V2, rest)) (cond third (Ok (Justdo, rest)) (Err Version)))
 
-told : (bytes : List ℕ) (n : ℕ) (rest : List ℕ) (x : Log × List ℕ) (first second : Bool) → (n == 1) ≡ first → (n == 2) ≡ second →
-    chosen first second rest ≡ Ok x → Takes bytes (number n) rest → Takes bytes (number (version_of x.0)) x.1
-told bytes n rest x true second one two e t =
-    let made : Log × List ℕ = (V1, rest) in
+abbrev by_number : (read : ℕ × List ℕ) → Result (Log × List ℕ) Fault
+by_number read = chosen (read.0 == 1) (read.0 == 2) (read.0 == 3) read.1
+
+told_by : (log : Log) (bytes : List ℕ) (n : ℕ) (rest : List ℕ) (x : Log × List ℕ) → (n == version_of log) ≡ true →
+    ◌≡◌ {A = Result (Log × List ℕ) Fault} (Ok (log, rest)) (Ok x) → Takes bytes (number n) rest → Takes bytes (number (version_of x.0)) x.1
+told_by log bytes n rest x is e t =
+    let made : Log × List ℕ = (log, rest) in
     subst (λ (y : Log × List ℕ). Takes bytes (number (version_of y.0)) y.1) (ok_is made x e)
-    (subst (λ (m : ℕ). Takes bytes (number m) rest) (eqb-true n 1 one) t)
-told bytes n rest x false true one two e t =
-    let made : Log × List ℕ = (V2, rest) in
-    subst (λ (y : Log × List ℕ). Takes bytes (number (version_of y.0)) y.1) (ok_is made x e)
-    (subst (λ (m : ℕ). Takes bytes (number m) rest) (eqb-true n 2 two) t)
-told bytes n rest x false false one two e t = absurd (cc e)
+    (subst (λ (m : ℕ). Takes bytes (number m) rest) (eqb-true n (version_of log) is) t)
+
+told : (bytes : List ℕ) (n : ℕ) (rest : List ℕ) (x : Log × List ℕ) (first second third : Bool) → (n == 1) ≡ first → (n == 2) ≡ second → (n == 3) ≡ third →
+    chosen first second third rest ≡ Ok x → Takes bytes (number n) rest → Takes bytes (number (version_of x.0)) x.1
+told bytes n rest x true second third one two three e t = told_by V1 bytes n rest x one e t
+told bytes n rest x false true third one two three e t = told_by V2 bytes n rest x two e t
+told bytes n rest x false false true one two three e t = told_by Justdo bytes n rest x three e t
+told bytes n rest x false false false one two three e t = absurd (cc e)
 
 log_takes : (total : ℕ) (bytes : List ℕ) (x : Log × List ℕ) → IsBytes bytes → log_at total bytes ≡ Ok x → Takes bytes (number (version_of x.0)) x.1
 unfolding log_at
 log_takes total bytes x fits e =
-    let a = bind_ok (number_at total bytes) (λ n. chosen (n.0 == 1) (n.0 == 2) n.1) x e in
-    told bytes a.0.0 a.0.1 x (a.0.0 == 1) (a.0.0 == 2) refl refl a.2 (number_takes total bytes a.0 fits a.1).0
+    let a = bind_ok (number_at total bytes) (λ n. by_number n) x e in
+    told bytes a.0.0 a.0.1 x (a.0.0 == 1) (a.0.0 == 2) (a.0.0 == 3) refl refl refl a.2 (number_takes total bytes a.0 fits a.1).0
+
+version_fits : (log : Log) → version_of log < 2 ^ 32
+version_fits V1 = omega arith
+version_fits V2 = omega arith
+version_fits Justdo = omega arith
+
+version_told : (log : Log) (rest : List ℕ) → by_number (version_of log, rest) ≡ Ok (log, rest)
+version_told V1 rest = refl
+version_told V2 rest = refl
+version_told Justdo rest = refl
 
 log_again : (total : ℕ) (log : Log) (rest : List ℕ) → log_at total (number (version_of log) ++ rest) ≡ Ok (log, rest)
 unfolding log_at
-log_again total V1 rest =
-    ap (λ (read : Result (ℕ × List ℕ) Fault). read >>= λ n. chosen (n.0 == 1) (n.0 == 2) n.1) (number_again total 1 rest (omega arith))
-log_again total V2 rest =
-    ap (λ (read : Result (ℕ × List ℕ) Fault). read >>= λ n. chosen (n.0 == 1) (n.0 == 2) n.1) (number_again total 2 rest (omega arith))
+log_again total log rest =
+    ap (λ (read : Result (ℕ × List ℕ) Fault). read >>= λ n. by_number n) (number_again total (version_of log) rest (version_fits log))
+    ∙ version_told log rest
 
 mutexes_fit : (log : Log) → most_locks log < 2 ^ 32
 mutexes_fit log = by (keeping_of log)

@@ -1,6 +1,6 @@
 -- What the definitions compute.
 use Rattle.std.specs.Prelude.{◌≡◌, ℕ, List, [], ◌∷◌, ◌++◌, take, drop, refl, Ok, Err}
-use Rattle.log_schemes.specs.declared.log.Log.TheVariants.{V1, V2}
+use Rattle.log_schemes.specs.declared.log.Log.TheVariants.{V1, V2, Justdo}
 use Rattle.rv64_isa.specs.Formats.{decoded}
 use Rattle.file_fields.specs.Fields.{Magic, Version, Cut, Field, Rest, magic_at, number_within, repeated, number_at}
 use Rattle.object_format.specs.Contents.{Contents}
@@ -51,6 +51,19 @@ listed_read : read (take 8 head_bytes ++ 2 ∷ drop 9 head_bytes ++ code_bytes) 
 unfolding two_words head_bytes code_bytes read head_at magic_at log_at number_within initial_at thread_at repeated word_at number_at decoded
 listed_read = refl
 
-other_version : read (take 8 head_bytes ++ 3 ∷ 0 ∷ 0 ∷ 0 ∷ []) ≡ Err Version
+logged_writes_read : read (take 8 head_bytes ++ 3 ∷ drop 9 head_bytes ++ code_bytes) ≡ Ok (record two_words { log = Justdo })
+unfolding two_words head_bytes code_bytes read head_at magic_at log_at number_within initial_at thread_at repeated word_at number_at decoded
+logged_writes_read = refl
+
+logged_writes_spelled : spelling (record two_words { log = Justdo }) ≡ take 8 head_bytes ++ 3 ∷ drop 9 head_bytes ++ code_bytes
+unfolding two_words head_bytes code_bytes
+logged_writes_spelled = refl
+
+-- a mutex more than there may be; a version that there is none of comes before what follows it
+too_many_mutexes : head_at 24 (take 8 head_bytes ++ 3 ∷ 0 ∷ 0 ∷ 0 ∷ 1 ∷ 0 ∷ 0 ∷ 0 ∷ 1 ∷ 4 ∷ 0 ∷ 0 ∷ []) ≡ Err (Field 20)
+unfolding head_bytes head_at magic_at log_at number_within initial_at number_at
+too_many_mutexes = refl
+
+other_version : read (take 8 head_bytes ++ 4 ∷ 0 ∷ 0 ∷ 0 ∷ []) ≡ Err Version
 unfolding two_words head_bytes code_bytes read head_at magic_at log_at number_within initial_at thread_at repeated word_at number_at decoded
 other_version = refl

@@ -4,7 +4,7 @@ use Rattle.std.specs.List.{AllByRecursion}
 use Rattle.std.specs.Global.{Vec}
 use Rattle.ido_base.specs.declared.limits.TheConstants.{MOST_THREADS, MOST_VARIABLE_BYTES, MOST_CODE_WORDS, WORD_BYTES}
 use Rattle.log_schemes.specs.declared.log.Log.{Log}
-use Rattle.log_schemes.specs.declared.log.Log.TheVariants.{V1, V2}
+use Rattle.log_schemes.specs.declared.log.Log.TheVariants.{V1, V2, Justdo}
 use Rattle.log_schemes.specs.Schemes.{most_locks}
 use Rattle.rv64_isa.specs.Formats.{decoded}
 use Rattle.machine_model.specs.declared.object.Object.{Object}
@@ -29,6 +29,7 @@ contents_of object = record { log = object.log; code = map items_of object.code.
 abbrev pub version_of : Log → ℕ
 version_of V1 = 1
 version_of V2 = 2
+version_of Justdo = 3
 
 -- ---- Limits
 

@@ -2,7 +2,7 @@
 use Rattle.std.specs.Prelude.{ℕ, ◌%◌, List, length, Result, Ok, Err, is_some, ◌==◌, if◌then◌else◌}
 use Rattle.ido_base.specs.declared.limits.TheConstants.{MOST_THREADS, MOST_VARIABLE_BYTES, MOST_CODE_WORDS}
 use Rattle.log_schemes.specs.declared.log.Log.{Log}
-use Rattle.log_schemes.specs.declared.log.Log.TheVariants.{V1, V2}
+use Rattle.log_schemes.specs.declared.log.Log.TheVariants.{V1, V2, Justdo}
 use Rattle.rv64_isa.specs.Formats.{decoded}
 use Rattle.file_fields.specs.Fields.{Fault, Reads, Version, ◌>>=◌, bytes_at, number_at, kept, number_within, repeated, magic_at, ended}
 use Rattle.object_format.specs.Contents.{Contents, least_words, word_bytes}
@@ -13,7 +13,7 @@ use Rattle.object_format.specs.ObjectEncoder.{magic}
 unfoldable pub log_at : (total : ℕ) → List ℕ → Reads Log
 log_at total bytes = do
   n ← number_at total bytes
-  if n.0 == 1 then Ok (V1, n.1) else if n.0 == 2 then Ok (V2, n.1) else Err Version
+  if n.0 == 1 then Ok (V1, n.1) else if n.0 == 2 then Ok (V2, n.1) else if n.0 == 3 then Ok (Justdo, n.1) else Err Version
 
 -- how many initial bytes there are, and these
 unfoldable pub initial_at : (total : ℕ) → List ℕ → Reads (List ℕ)

@@ -18,6 +18,8 @@ pub fn log_at(total: u32, bytes: &[u8]) -> Result<(Log, &[u8]), ReadError>
         Ok((Log::V1, rest))
     } else if version == 2 {
         Ok((Log::V2, rest))
+    } else if version == 3 {
+        Ok((Log::Justdo, rest))
     } else {
         Err(ReadError::Version)
     }

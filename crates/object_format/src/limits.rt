@@ -14,5 +14,6 @@ pub fn version_of(log: Log) -> u32
     match log {
         Log::V1 => 1,
         Log::V2 => 2,
+        Log::Justdo => 3,
     }
 }

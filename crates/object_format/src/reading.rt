@@ -154,9 +154,10 @@ fn read(alloc: Global, bytes: &[u8]) -> Result<Object, ReadError>
 
 /// The object that bytes spell.
 ///
-/// Numbers are of four bytes, little-endian: 8 bytes `IDO-OBJ` and LF, the version, which is 1 where threads log a mask of their locks and 2 where they list
-/// them, the numbers of threads, of mutexes and of initial bytes, these bytes, and of each thread the number of its words and the words. There are at most 8
-/// threads of 1 to 65,536 words that instructions have, 64 mutexes, in version 2 1,024, and 65,536 initial bytes, a multiple of 8.
+/// Numbers are of four bytes, little-endian: 8 bytes `IDO-OBJ` and LF, the version, which is 1 where threads log a mask of their locks, 2 where they list
+/// them, and 3 where they list them and log each write, the numbers of threads, of mutexes and of initial bytes, these bytes, and of each thread the number
+/// of its words and the words. There are at most 8 threads of 1 to 65,536 words that instructions have, 64 mutexes, in versions 2 and 3 1,024, and 65,536
+/// initial bytes, a multiple of 8.
 pub fn read_object(alloc: Global, bytes: &[u8]) -> Result<Object, ReadError>
     requires short { length bytes.now ≤ MOST_INPUT_BYTES }
     // What is read is spelled so, and within the limits.

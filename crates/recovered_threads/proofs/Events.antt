@@ -15,15 +15,14 @@ use Rattle.machine_model.specs.declared.phase.Phase.{Phase}
 use Rattle.machine_model.specs.declared.phase.Phase.TheVariants.{Take, Wait, Resume, Run, Done, Ended}
 use Rattle.rv64_isa.specs.Rows.{Effect, Continues, Loads, Stores, Cleans, Fences, Calls, row, read, next}
 use Rattle.rv64_isa.specs.Programs.{fetched}
-use Rattle.machine_model.specs.Machine.{Hart, World, Outcome, moved, with_holder, drain_one, access, cleaned, fenced, acquired, released, ended, called, applied}
-use Rattle.machine_model.specs.Machine.{executed}
-use Rattle.machine_model.specs.Machine.{hart_step, over_after, done_if_over, stepped, happens, after_event}
+use Rattle.machine_model.specs.Machine.{Hart, World, Outcome, moved, with_holder, drain_one, access, cleaned, fenced, acquired, released, ended, called}
+use Rattle.machine_model.specs.Machine.{applied, executed, hart_step, over_after, done_if_over, stepped, happens, after_event}
 use Rattle.machine_model.specs.Frames.{IsWellFormedWorld, Touches, IsHeldOn, Stays, Takes, Gives}
 use Rattle.machine_model.proofs.Public.{get-set_same, steps_touch}
 use Rattle.flow_graph.proofs.Public.{get_cases}
-use Rattle.log_states.specs.Logs.{Record, nothing_recorded}
+use Rattle.log_states.specs.Logs.{Record, framed_of, nothing_recorded}
 use Rattle.log_states.specs.Machines.{IsElsewhere}
-use Rattle.log_states.proofs.Public.{steps_keep, evictions_keep}
+use Rattle.log_states.proofs.Public.{contains_none, steps_keep, evictions_keep}
 use Rattle.hart_runs.specs.Calls.{IsInPhase}
 use Rattle.hart_runs.proofs.Public.{by_phase}
 use Rattle.recovered_threads.specs.RecordDescriptions.{locks_of}
@@ -158,12 +157,17 @@ module _ (program : List (List Slot)) (w : World) (g h : ℕ) (r : Record) (soun
       by (Takes old new) = absurd (other (sym (same_Some g h (same_there (slice_get after.holders lock) (Some g) (Some h) new there))))
       by (Gives old new) = absurd (none-some h (same_there (slice_get after.holders lock) None (Some h) new there))
 
-  pub ready_stays : IsElsewhere program w g h → IsRecoveredHart w h r → IsRecoveredHart after h r
-  ready_stays elsewhere is = record {
+  -- the other stores nothing to this log, whichever words of it are named
+  apart_by : (named : List ℕ) → IsElsewhere program w named g h → IsElsewhere program w (framed_of r) g h
+  apart_by named elsewhere hart address bytes value is i inside meets = absurd (other (sym (elsewhere hart address bytes value is i inside meets).0))
+
+  pub ready_stays : {named : List ℕ} → IsElsewhere program w named g h → IsRecoveredHart w h r → IsRecoveredHart after h r
+  ready_stays {named} elsewhere is = record {
     inside = is.inside;
     all = still_all is.all;
     only = still_only is.only;
-    log = steps_keep program g h nothing_recorded r w [] sound is.log elsewhere;
+    log = steps_keep program (framed_of r) g h nothing_recorded r w [] sound is.log (λ word none. absurd (contains_none word none)) (λ word has. has)
+        (apart_by named elsewhere);
   }
 
 -- ---- Events
@@ -179,7 +183,7 @@ gone_gathered v h r Done g = tt
 gone_gathered v h r Ended g = tt
 
 module _ (program : List (List Slot)) (w : World) (records : ℕ → Record) (sound : IsWellFormedWorld w) where
-  running_gathered : (g : ℕ) (hart : Hart) → slice_get w.harts g ≡ Some hart → hart.phase ≡ Run → ((h : ℕ) → h ≢ g → IsElsewhere program w g h) →
+  running_gathered : (g : ℕ) (hart : Hart) → slice_get w.harts g ≡ Some hart → hart.phase ≡ Run → ((h : ℕ) → h ≢ g → IsElsewhere program w [] g h) →
       AreGathered w records →
       AreGathered (after_event program w (Step g)) records
   unfolding HasGoneOn
@@ -227,7 +231,7 @@ module _ (program : List (List Slot)) (w : World) (records : ℕ → Record) (so
   awaited g are (one_takes taking takes does) = same_world g _ does refl (gathering are)
 
   module _ (g : ℕ) (hart : Hart) (here : slice_get w.harts g ≡ Some hart) (apart : AreRecordsApart (length w.harts) records)
-      (elsewhere : (h : ℕ) → h ≢ g → IsElsewhere program w g h) where
+      (elsewhere : (h : ℕ) → h ≢ g → IsElsewhere program w [] g h) where
     in_phase : (phase : Phase) → hart.phase ≡ phase → IsInPhase w g phase
     in_phase phase is = record { hart = hart; here = here; phase_is = is }
 

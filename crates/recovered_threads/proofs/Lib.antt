@@ -10,6 +10,8 @@ mod ResumedHarts
 mod CommittedRecords
 mod Events
 mod OrderlyStates
+mod HomesByColour
+mod CountedWords
 mod Boundaries
 mod LivenessAtUnlocks
 mod LogsDescribeState

@@ -1,10 +1,11 @@
--- What is live after an unlock is live before it, and no store is pending there.
+-- What nodes assign; what is live after an unlock is live before it; and no store follows a lock or an unlock.
 use Rattle.std.proofs.Common.{◌≡◌, ℕ, zero, suc, ◌+◌, List, [], ◌∷◌, ◌++◌, refl, ap, arith, sym, ◌∙◌, subst, false, Option, Some, None, is_some}
-use Rattle.std.specs.Prelude.{slice_get}
+use Rattle.std.specs.Prelude.{slice_get, ℤ}
 use Rattle.std.specs.List.{AllByRecursion, Contains}
 use Rattle.std.proofs.lemmas.Bool.{true≢false}
 use Rattle.std.proofs.lemmas.Option.{none-some, same_Some, slice_get_within}
 use Rattle.ido_base.specs.declared.place.Place.{Place}
+use Rattle.ido_ints.specs.declared.kinds.Kind.{Kind}
 use Rattle.c_tree.specs.Exprs as e
 use Rattle.c_tree.specs.Flats as f
 use Rattle.c_tree.specs.Source.{Pending}
@@ -13,18 +14,25 @@ use Rattle.flow_graph.specs.Actions.{GraphThread, FlowState, seen_by}
 use Rattle.flow_graph.specs.Lowering.{table_of, Table, assign_nodes, count, statements_count, arms_count}
 use Rattle.flow_graph.specs.Lowering.{thread_count, entry, statement_nodes, statements_nodes, arms_nodes}
 use Rattle.flow_graph.specs.Lowering.{thread_nodes, threads_nodes}
-use Rattle.flow_graph.specs.Lockstep.{Standing, threads_standings, GraphThreadMatches}
+use Rattle.flow_graph.specs.IdempotentCuts.{IsStoreNode, stores}
+use Rattle.flow_graph.specs.Lockstep.{Standing, free, threads_standings, GraphThreadMatches}
 use Rattle.flow_graph.specs.Liveness.{NodeAt, IsLive, is_read_later}
-use Rattle.flow_graph.proofs.Public.{found_in, lowered_nodes, ActionLeads, Agree, Unlocks, agrees}
-use Rattle.thread_code.specs.Plans.{Plan, IsPlan}
-use Rattle.thread_code.specs.RegistersAtNodes.{IsPendingIn, Enters}
+use Rattle.flow_graph.proofs.Public.{found_in, lowered_nodes, ActionLeads, Agree, Unlocks, agrees, node_at}
+use Rattle.thread_code.specs.Plans.{Plan, IsLogged, IsPlan}
+use Rattle.thread_code.specs.NodeCodeEffects.{bytes_written}
+use Rattle.thread_code.specs.RegistersAtNodes.{IsPendingIn, Enters, IsReady, LogView, to_assign, to_enter}
 use Rattle.recovered_threads.specs.RecordDescriptions.{Code, IsOrderly}
 use Rattle.recovered_threads.specs.Laws.{UnlocksEnter}
 
--- ---- An unlock assigns nothing
+-- ---- An assignment of a local assigns that, and an unlock nothing
+
+abbrev AssignsTo : e.Lvalue → Node → Type 0
+AssignsTo (e.ToLocal place local kind) n = n.assigns ≡ Some local
+AssignsTo (e.ToVariable place variable kind) n = Unit {0}
+AssignsTo (e.ToElement place variable kind index) n = Unit {0}
 
 abbrev AssignsAs : Action → Node → Type 0
-AssignsAs (Eval target value next) n = Unit {0}
+AssignsAs (Eval target value next) n = AssignsTo target n
 AssignsAs (Store variable kind next) n = Unit {0}
 AssignsAs (Test condition to other) n = Unit {0}
 AssignsAs (Lock lock next) n = Unit {0}
@@ -40,7 +48,7 @@ both (n ∷ ns) ms a b = (a.0, both ns ms a.1 b)
 
 assign_assigns : (table : Table) (place : Place) (target : e.Lvalue) (value : e.Placed) (first next : ℕ) →
     AllAssign (assign_nodes table place target value first next)
-assign_assigns table place (e.ToLocal name local kind) value first next = (tt, tt)
+assign_assigns table place (e.ToLocal name local kind) value first next = (refl, tt)
 assign_assigns table place (e.ToVariable name variable kind) value first next = (tt, (tt, tt))
 assign_assigns table place (e.ToElement name variable kind index) value first next = (tt, (tt, tt))
 
@@ -109,16 +117,49 @@ no_pending_in p (Lock lock next) s graph_thread x none = tt
 no_pending_in p (Unlock lock next) s graph_thread x none = tt
 no_pending_in p End s graph_thread x none = tt
 
+module _ (p : Plan) (plan : IsPlan p) where
+  node_is : (node : ℕ) (is : Node) → NodeAt p.graph node is → slice_get (threads_nodes p.flat p.flat.threads 0) node ≡ Some is
+  node_is node is at = ap (λ (ns : List Node). slice_get ns node) (sym (ap (λ (g : Graph). g.nodes) plan.lowered ∙ lowered_nodes p.flat)) ∙ at
+
+  assigns_as : (node : ℕ) (is : Node) → NodeAt p.graph node is → AssignsAs is.action is
+  assigns_as node is at = assigns_at (threads_nodes p.flat p.flat.threads 0) node is (threads_assign p.flat p.flat.threads 0) (node_is node is at)
+
+  pub assigned_is : (node : ℕ) (is : Node) → NodeAt p.graph node is → (place : Place) (local : ℕ) (kind : Kind) (value : e.Placed) (next : ℕ) →
+      is.action ≡ Eval (e.ToLocal place local kind) value next → is.assigns ≡ Some local
+  assigned_is node is at place local kind value next does = subst (λ (a : Action). AssignsAs a is) does (assigns_as node is at)
+
+  abbrev all : List Standing
+  all = threads_standings p.flat.threads
+
+  leads_at : (node : ℕ) (is : Node) → NodeAt p.graph node is → (s : Standing) × ActionLeads all is.action s
+  leads_at node is at = standing_of all (threads_nodes p.flat p.flat.threads 0) all node is (agrees p.flat plan.formed.threads) (node_is node is at)
+
+  -- where no store is owed none is made
+  stores_none : (node : ℕ) (rest : List f.Statement) → slice_get all node ≡ Some (free rest) → IsStoreNode p.graph node → ⊥
+  stores_none node rest stands (stores x variable kind next at does) =
+      let n = node_at p.flat node (free rest) plan.formed.threads stands in
+      let same : n.0 ≡ x = same_Some n.0 x (sym n.1 ∙ node_is node x at) in
+      let leads = subst (λ (a : Action). ActionLeads all a (free rest)) (ap (λ (z : Node). z.action) same ∙ does) n.2 in
+      true≢false (ap (λ (z : Standing). z.owes) (sym leads.is))
+
+  pub free_after_lock : (from next : ℕ) (lock : e.LockName) (is : Node) → NodeAt p.graph from is → is.action ≡ Lock lock next → IsStoreNode p.graph next → ⊥
+  free_after_lock from next lock is at locks =
+      let does = leads_at from is at in
+      let leads = subst (λ (a : Action). ActionLeads all a does.0) locks does.1 in
+      stores_none next leads.rest leads.follows
+
+  pub free_after_unlock : (from next : ℕ) (lock : e.LockName) (is : Node) → NodeAt p.graph from is → is.action ≡ Unlock lock next →
+      IsStoreNode p.graph next → ⊥
+  free_after_unlock from next lock is at unlocks =
+      let does = leads_at from is at in
+      let leads = subst (λ (a : Action). ActionLeads all a does.0) unlocks does.1 in
+      stores_none next leads.rest leads.follows
+
 module _ {p : Plan} (code : Code p) {s : FlowState} {graph_thread : GraphThread} (from : ℕ) {lock : e.LockName} {is : Node} (plan : IsPlan p)
     (orderly : IsOrderly p s) (there : slice_get s.graph_threads code.thread.number ≡ Some graph_thread) (at : NodeAt p.graph from is)
     (unlocks : is.action ≡ Unlock lock graph_thread.at) where
-  node_is : slice_get (threads_nodes p.flat p.flat.threads 0) from ≡ Some is
-  node_is = ap (λ (ns : List Node). slice_get ns from) (sym (ap (λ (g : Graph). g.nodes) plan.lowered ∙ lowered_nodes p.flat)) ∙ at
-
   assigns_none : is.assigns ≡ None
-  assigns_none =
-      subst (λ (a : Action). AssignsAs a is) unlocks
-      (assigns_at (threads_nodes p.flat p.flat.threads 0) from is (threads_assign p.flat p.flat.threads 0) node_is)
+  assigns_none = subst (λ (a : Action). AssignsAs a is) unlocks (assigns_as p plan from is at)
 
   live_before : (local : ℕ) → IsLive p.graph local graph_thread.at → IsLive p.graph local from
   live_before local live =
@@ -127,24 +168,35 @@ module _ {p : Plan} (code : Code p) {s : FlowState} {graph_thread : GraphThread}
 
   none_pending : graph_thread.pending ≡ None
   none_pending =
-      let all = threads_standings p.flat.threads in
-      let does = standing_of all (threads_nodes p.flat p.flat.threads 0) all from is (agrees p.flat plan.formed.threads) node_is in
-      let after : Unlocks all lock graph_thread.at does.0 = subst (λ (a : Action). ActionLeads all a does.0) unlocks does.1 in
+      let does = leads_at p plan from is at in
+      let after : Unlocks (all p plan) lock graph_thread.at does.0 = subst (λ (a : Action). ActionLeads (all p plan) a does.0) unlocks does.1 in
       let source = found_in orderly.source.threads code.thread.number
       (let l = slice_get_within s.graph_threads code.thread.number graph_thread there in omega (arith, l, orderly.matches.count)) in
       let matches : GraphThreadMatches p.flat graph_thread source.0 = orderly.matches.each code.thread.number graph_thread source.0 there source.1 in
       let same = same_Some _ _ (sym matches.stands ∙ after.follows) in
       matches.pending ∙ not_pending source.0.pending (ap (λ (z : Standing). z.owes) same)
 
-  enters_after : (side : ℕ) (x : List ℕ) → Enters p code.thread from (seen_by s graph_thread) side x →
-      Enters p code.thread graph_thread.at (seen_by s graph_thread) side x
-  enters_after side x enters = record {
+  enters_after : (view : LogView) (x : List ℕ) → Enters p code.thread from (seen_by s graph_thread) view x →
+      Enters p code.thread graph_thread.at (seen_by s graph_thread) view x
+  enters_after view x enters = record {
     at_side = enters.at_side;
     count = enters.count;
     locals = λ local k kind live. enters.locals local k kind (live_before local live);
     pending = λ node here. no_pending_in p node.action s graph_thread x none_pending;
   }
 
+  -- an unlock is no assignment
+  unlogged : IsLogged p code.thread from → ⊥
+  unlogged logged =
+      let a = logged.assigns in
+      none-some 8 (sym (ap bytes_written unlocks)
+      ∙ (ap (λ (n : Node). bytes_written n.action) (same_Some is a.is (sym at ∙ a.at)) ∙ ap bytes_written a.action))
+
+  ready_after : (view : LogView) (owed : ℤ) (x : List ℕ) → IsReady p code.thread from (seen_by s graph_thread) view owed x →
+      Enters p code.thread graph_thread.at (seen_by s graph_thread) view x
+  ready_after view owed x (to_enter none enters) = enters_after view x enters
+  ready_after view owed x (to_assign logged may) = absurd (unlogged logged)
+
 pub unlocks_enter : UnlocksEnter
-unlocks_enter p code s graph_thread from mutex side is x plan orderly there at unlocks enters =
-    enters_after code from plan orderly there at unlocks side x enters
+unlocks_enter p code s graph_thread from mutex view owed is x plan orderly there at unlocks ready =
+    ready_after code from plan orderly there at unlocks view owed x ready

@@ -1,5 +1,5 @@
 -- The locks of a thread's record are those that it holds in the kept state.
-use Rattle.std.proofs.Common.{◌≡◌, ◌≢◌, ◌↔◌, inl, inr, ℕ, zero, suc, ◌+◌, ◌-◌, ◌<◌, ◌^◌, ◌==◌, List, [], ◌∷◌, length, refl, ap, arith, sym, subst, ◌∙◌}
+use Rattle.std.proofs.Common.{◌≡◌, ◌≢◌, ◌↔◌, inl, inr, ℕ, zero, suc, ◌+◌, ◌-◌, ◌<◌, ◌^◌, ◌==◌, List, [], ◌∷◌, refl, ap, arith, sym, subst, ◌∙◌}
 use Rattle.std.proofs.Common.{cond, Bool, true, false, Option, Some, None, is_none}
 use Rattle.std.specs.Prelude.{Contains, map, slice_get, slice_index_or, ℤ}
 use Rattle.std.proofs.lemmas.Bool.{true≢false, cond-false, eq-eqb, eqb-true, ne_eqb, or_left, or_right}
@@ -27,7 +27,7 @@ use Rattle.log_schemes.specs.SchemeFacts.{AreLoggable}
 use Rattle.log_states.proofs.Public.{contains_cases, contains_none, locks_kept}
 use Rattle.thread_code.specs.Plans.{Plan, Thread, IsThread, IsNodeOf, IsPlan, locks_held, locks_held_from, set_before, locks_before}
 use Rattle.thread_code.proofs.Public.{has_held, names_are}
-use Rattle.recovered_threads.specs.RecordDescriptions.{Code, IsOrderly, Describes, between, inside, locks_of}
+use Rattle.recovered_threads.specs.RecordDescriptions.{IsOrderly, between, inside, locks_of}
 use Rattle.recovered_threads.specs.Laws.{LocksAreHeld, PointsHaveLocks, RecordsAreApart}
 use Rattle.recovered_threads.proofs.HeldNumbers.{held_numbers}
 use Rattle.recovered_threads.proofs.NodesBeforeSteps.{left_at, standing_at}

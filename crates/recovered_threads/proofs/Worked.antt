@@ -1,8 +1,8 @@
 -- Worked rows: records, what harts hold of them, and a crash right at the start.
-use Rattle.std.proofs.Common.{◌≡◌, ℕ, zero, suc, List, [], ◌∷◌, length, refl, arith, sym, cond, Bool, true, false, Option, Some, None}
+use Rattle.std.proofs.Common.{◌≡◌, ◌≢◌, ◌+◌, ℕ, zero, suc, List, [], ◌∷◌, length, refl, arith, sym, cond, Bool, true, false, Option, Some, None}
 use Rattle.std.proofs.lemmas.Bool.{true≢false}
 use Rattle.std.proofs.lemmas.Option.{none-some, same_Some}
-use Rattle.log_schemes.specs.declared.log.Log.TheVariants.{V1}
+use Rattle.log_schemes.specs.declared.log.Log.TheVariants.{Justdo, V1}
 use Rattle.log_schemes.specs.declared.log.Log.{Log}
 use Rattle.machine_events.specs.declared.event.Event.TheVariants.{Crash}
 use Rattle.source_machine.specs.Mutexes.{held_by}
@@ -15,13 +15,14 @@ use Rattle.log_states.specs.Stages.{is_committed}
 use Rattle.log_states.specs.Machines.{config_of}
 use Rattle.log_states.proofs.Public.{starts_standing}
 use Rattle.thread_code.specs.Plans.{locks_held}
-use Rattle.recovered_threads.specs.RecordDescriptions.{locks_of}
-use Rattle.recovered_threads.specs.RecoveryStates.{HoldsAll, HoldsOnly, Gathers, AreGathering}
+use Rattle.thread_code.specs.RegistersAtNodes.{LogView}
+use Rattle.recovered_threads.specs.RecordDescriptions.{locks_of, words_in}
+use Rattle.recovered_threads.specs.RecoveryStates.{AreGathering, Gathers, HoldsAll, HoldsOnly, view_resumed}
 use Rattle.recovered_threads.proofs.RecoveryAfterCrash.{crashes_gather}
 
 -- a point in the second side, with locks 0 and 2
 abbrev two_locks : Record
-two_locks = record { point = 4097; locks = 0 ∷ 2 ∷ []; live = 8 ∷ []; registers = [] }
+two_locks = record { point = 4097; locks = 0 ∷ 2 ∷ []; live = 8 ∷ []; registers = []; written = None; framed = []; frame = λ word. 0 }
 
 locks_two : locks_of two_locks ≡ 0 ∷ 2 ∷ []
 locks_two = refl
@@ -38,6 +39,20 @@ side_two = refl
 
 resumes_two : resume_of two_locks.point ≡ 4096
 resumes_two = refl
+
+-- where a thread of that record is resumed, its log is on the record's side, and its frame is as it was
+abbrev view_before : LogView
+view_before = record { side = 0; frame = λ address. address }
+
+view_two : view_resumed two_locks view_before ≡ record { side = 1; frame = λ address. address }
+view_two = refl
+
+-- word 2 of the frame of thread 1 stands 528 bytes after the log's point, and another word elsewhere
+word_two : words_in Justdo 1 view_before 2 ≡ 0x2000_0000 + 2048 + 528
+word_two = refl
+
+not_word_three : words_in Justdo 1 view_before 3 ≢ 0x2000_0000 + 2048 + 528
+not_word_three e = omega (arith, e)
 
 -- what a thread holds
 holds_two : locks_held (held_by 3 (Some 3 ∷ Some 1 ∷ Some 3 ∷ None ∷ [])) ≡ 0 ∷ 2 ∷ []

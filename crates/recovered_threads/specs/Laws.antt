@@ -1,5 +1,5 @@
 -- What follows from what the records of threads say of the kept state.
-use Rattle.std.specs.Prelude.{◌≡◌, ◌≢◌, ◌⊎◌, ◌↔◌, ℕ, ◌%◌, ◌^◌, ◌<◌, List, [], length, slice_get, Option, Some, None, true, false}
+use Rattle.std.specs.Prelude.{◌≡◌, ◌⊎◌, ◌↔◌, ℕ, ℤ, ◌%◌, ◌^◌, ◌<◌, List, [], length, slice_get, Contains, Option, Some, None, true, false}
 use Rattle.c_tree.specs.Exprs.{LockName}
 use Rattle.log_schemes.specs.declared.log.Log.{Log}
 use Rattle.machine_events.specs.declared.event.Event.{Event}
@@ -15,19 +15,24 @@ use Rattle.rv64_isa.specs.Rows.{Effect, read}
 use Rattle.machine_model.specs.Machine.{World, after_event, reply_to, durable_point, record_of, start_of}
 use Rattle.machine_model.specs.Frames.{IsWellFormedWorld}
 use Rattle.boundary_code.specs.Boundaries.{Boundary}
-use Rattle.flow_graph.specs.Nodes.{Unlock, Node}
+use Rattle.flow_graph.specs.Nodes.{Lock, Unlock, Node}
 use Rattle.flow_graph.specs.Liveness.{NodeAt}
-use Rattle.flow_graph.specs.Actions.{GraphThread, FlowState, seen_by, graph_start, graph_step}
-use Rattle.log_states.specs.Logs.{Record, nothing_recorded}
+use Rattle.flow_graph.specs.IdempotentCuts.{IsChosen}
+use Rattle.flow_graph.specs.Actions.{GraphThread, FlowState, effect_of, seen_by, graph_start, graph_step}
+use Rattle.log_states.specs.Logs.{IsFrameWord, Record, nothing_recorded}
 use Rattle.log_states.specs.Stages.{left_by_crash}
 use Rattle.log_states.specs.Machines.{config_of}
 use Rattle.log_states.specs.Laws.{recorded_by, IsRecoverable}
 use Rattle.log_states.specs.LogInvariant.{LogInv}
 use Rattle.hart_runs.specs.Calls.{IsInPhase}
-use Rattle.thread_code.specs.Plans.{Plan, IsPlan, IsNodeOf, held_names_before, IsKept}
-use Rattle.thread_code.specs.RegistersAtNodes.{Enters}
-use Rattle.thread_code.specs.NodeCodeEffects.{keeping}
-use Rattle.recovered_threads.specs.RecordDescriptions.{Code, Codes, IsOrderly, ResumesAt, Describes, AllDescribe, locks_of}
+use Rattle.expr_code.specs.EvaluationCode.{home_of}
+use Rattle.expr_code.specs.declared.home.Home.TheVariants.{InFrame}
+use Rattle.log_schemes.specs.Layout.{frame_at}
+use Rattle.thread_code.specs.Plans.{Plan, Thread, IsPlan, IsThread, IsNodeOf, IsLogged}
+use Rattle.thread_code.specs.RegistersAtNodes.{Enters, IsReady, LogView}
+use Rattle.thread_code.specs.NodeCodeEffects.{keeping, keeping_before, opens_section}
+use Rattle.recovered_threads.specs.RecordDescriptions.{Code, Codes, IsOrderly, Describes, AllDescribe, AreCounted, IsCountedWord, MayGoOn}
+use Rattle.recovered_threads.specs.RecordDescriptions.{NodePlace, the_core, the_entry, locks_of, words_in}
 use Rattle.recovered_threads.specs.Machines.{LogDescribes, LogsDescribe, RecoversTo}
 use Rattle.recovered_threads.specs.RecoveryStates.{IsRecoveredHart, AreGathering, AreGathered, AreRecovering, StoresApart, Awaits, ResumesThread}
 use Rattle.machine_model.specs.Schedule.{KeepsOn}
@@ -124,49 +129,81 @@ abbrev pub HartsGoOn : Type 0
 HartsGoOn = (program : List (List Slot)) (p : Plan) (code : Code p) (kept : FlowState) (w : World) (r : Record) → p.log ≡ w.log → Describes p code kept r →
     IsRecoveredHart w code.thread.number r → (i : IsInPhase w code.thread.number Resume) → ResumesThread program code kept w i.hart r
 
+-- ---- Words of the frame
+
+-- the words on which a thread counts can be listed
+abbrev pub WordsAreListed : Type 0
+WordsAreListed = (p : Plan) (t : Thread) (node : ℕ) (place : NodePlace) → IsPlan p → IsThread p t → (words : List ℕ) × AreCounted p t node place words
+
+-- they are words of a frame
+abbrev pub WordsExist : Type 0
+WordsExist = (p : Plan) (t : Thread) (node : ℕ) (place : NodePlace) (word : ℕ) → IsPlan p → IsThread p t → IsCountedWord p t node place word →
+    IsFrameWord p.log word
+
+-- and at the core of a logged assignment none of them is the one that it stores
+abbrev pub AssignedIsApart : Type 0
+AssignedIsApart = (p : Plan) (t : Thread) (node word : ℕ) → IsPlan p → IsThread p t → IsNodeOf t node → (logged : IsLogged p t node) →
+    home_of t.locals logged.local ≡ InFrame (frame_at p.log t.number word) → ¬ (IsCountedWord p t node the_core word)
+
 -- ---- Boundaries
 
--- a thread stands at a node in a state, and x are registers at the boundary that keeps what is live there, and resumes it at the address
-pub record AtBoundary (p : Plan) (code : Code p) (s : FlowState) (side resume : ℕ) (x : List ℕ) : Type 0 where
+-- the boundary at which a thread of the code stands, and where that resumes: the one before its node, the one after the lock before it, or of the unlock
+pub data IsBoundaryAt (p : Plan) (code : Code p) (graph_thread : GraphThread) : NodePlace → Boundary → (resume : ℕ) → Type 0 where
+  before_core : (is : Node) → NodeAt p.graph graph_thread.at is → IsChosen p.graph p.boundaries graph_thread.at →
+      IsBoundaryAt p code graph_thread the_core (keeping_before p code.thread code.is.places is.action graph_thread.locals graph_thread.at)
+      (code.is.places.core graph_thread.at)
+  after_lock : (from : ℕ) (lock : LockName) (is : Node) → IsNodeOf code.thread from → NodeAt p.graph from is → is.action ≡ Lock lock graph_thread.at →
+      IsBoundaryAt p code graph_thread the_entry
+      (keeping p code.thread code.is.places (opens_section p code.thread code.is.places from) graph_thread.locals graph_thread.at) (code.is.places.after from)
+  of_unlock : (from : ℕ) (lock : LockName) (is : Node) → IsNodeOf code.thread from → NodeAt p.graph from is → is.action ≡ Unlock lock graph_thread.at →
+      IsBoundaryAt p code graph_thread the_entry (keeping p code.thread code.is.places false graph_thread.locals graph_thread.at) (code.is.places.after from)
+
+-- a thread stands at a node in a state, its log is so, and x are registers at the boundary
+pub record AtBoundary (p : Plan) (code : Code p) (s : FlowState) (b : Boundary) (view : LogView) (resume : ℕ) (x : List ℕ) : Type 0 where
   pub graph_thread : GraphThread
   pub there : slice_get s.graph_threads code.thread.number ≡ Some graph_thread
   pub goes_on : graph_thread.ended ≡ false
   pub own : IsNodeOf code.thread graph_thread.at
-  pub resumes : held_names_before p code.thread graph_thread.at ≢ [] → ResumesAt p code graph_thread.at resume
-  pub enters : Enters p code.thread graph_thread.at (seen_by s graph_thread) side x
+  pub place : NodePlace
+  pub boundary : IsBoundaryAt p code graph_thread place b resume
+  pub owed : ℤ
+  pub may : MayGoOn p code.thread graph_thread.at place (seen_by s graph_thread) view owed x
   -- an instruction's address, and 64 bits in each register that the boundary keeps
   pub aligned : resume % 4 ≡ 0
   pub somewhere : 0 < resume
   pub below : resume < 2 ^ 64
-  pub registers : (register : ℕ) → IsKept p code.thread graph_thread.at register → read x register < 2 ^ 64
-
--- the boundary at which the thread stands, as its places give it
-abbrev pub boundary_at : (p : Plan) → (code : Code p) → GraphThread → Boundary
-boundary_at p code graph_thread = keeping p code.thread code.is.places graph_thread.locals graph_thread.at
+  pub registers : (register : ℕ) → Contains b.live register → read x register < 2 ^ 64
 
 -- can be recovered from
 abbrev pub BoundariesRecover : Type 0
-BoundariesRecover = (p : Plan) (code : Code p) (s : FlowState) (side resume : ℕ) (x : List ℕ) → IsPlan p → IsOrderly p s →
-    (b : AtBoundary p code s side resume x) → IsRecoverable (boundary_at p code b.graph_thread) resume x
+BoundariesRecover = (p : Plan) (code : Code p) (s : FlowState) (b : Boundary) (view : LogView) (resume : ℕ) (x : List ℕ) → IsPlan p → IsOrderly p s →
+    AtBoundary p code s b view resume x → IsRecoverable b resume x
 
--- once the boundary at which a thread stands is committed, its record describes the state that is kept with it
+-- once the boundary at which a thread stands is committed, with the words on which it counts, its record describes the state that is kept with it
 abbrev pub CommitsDescribe : Type 0
-CommitsDescribe = (p : Plan) (code : Code p) (kept : FlowState) (side resume : ℕ) (x : List ℕ) → IsPlan p → IsOrderly p kept →
-    (b : AtBoundary p code kept side resume x) → Describes p code kept (recorded_by (boundary_at p code b.graph_thread) side resume x)
+CommitsDescribe = (p : Plan) (code : Code p) (kept : FlowState) (b : Boundary) (view : LogView) (resume : ℕ) (x : List ℕ) (framed : List ℕ) → IsPlan p →
+    IsOrderly p kept → (k : AtBoundary p code kept b view resume x) → AreCounted p code.thread k.graph_thread.at k.place framed →
+    Describes p code kept (recorded_by b framed (words_in p.log code.thread.number view) view.side resume x)
 
--- the boundary before an unlock keeps what is live after it: registers with which the thread enters the unlock represent what it sees there
+-- the boundary of an unlock keeps what is live after it: registers with which the thread is at the unlock's core represent what it sees there
 abbrev pub UnlocksEnter : Type 0
 UnlocksEnter =
-    (p : Plan) (code : Code p) (s : FlowState) (graph_thread : GraphThread) (from : ℕ) (lock : LockName) (side : ℕ) (is : Node) (x : List ℕ) →
+    (p : Plan) (code : Code p) (s : FlowState) (graph_thread : GraphThread) (from : ℕ) (lock : LockName) (view : LogView) (owed : ℤ) (is : Node) (x : List ℕ) →
     IsPlan p → IsOrderly p s →
     slice_get s.graph_threads code.thread.number ≡ Some graph_thread → NodeAt p.graph from is → is.action ≡ Unlock lock graph_thread.at →
-    Enters p code.thread from (seen_by s graph_thread) side x → Enters p code.thread graph_thread.at (seen_by s graph_thread) side x
+    IsReady p code.thread from (seen_by s graph_thread) view owed x → Enters p code.thread graph_thread.at (seen_by s graph_thread) view x
 
--- the records of the others go on to describe the kept state, where their threads and what these hold are kept as they were
+-- a logged assignment at which the thread stands does the same in both states
+abbrev pub AssignsAlike : (p : Plan) → Thread → (kept after : FlowState) → Type 0
+AssignsAlike p t kept after = (graph_thread : GraphThread) (is : Node) → slice_get kept.graph_threads t.number ≡ Some graph_thread →
+    NodeAt p.graph graph_thread.at is → IsLogged p t graph_thread.at →
+    effect_of is.action (seen_by after graph_thread) ≡ effect_of is.action (seen_by kept graph_thread)
+
+-- the records of the others go on to describe the kept state, where their threads, what these hold, and what they assign next are kept as they were
 abbrev pub OthersDescribe : Type 0
 OthersDescribe = (p : Plan) (code : Code p) (kept after : FlowState) (r : Record) → Describes p code kept r →
     slice_get after.graph_threads code.thread.number ≡ slice_get kept.graph_threads code.thread.number →
-    held_by code.thread.number after.holders ≡ held_by code.thread.number kept.holders → Describes p code after r
+    held_by code.thread.number after.holders ≡ held_by code.thread.number kept.holders → AssignsAlike p code.thread kept after → Describes p code after r
 
 -- all durable points are 0 exactly where no mutex is held in the kept state
 abbrev pub PointsSettle : Type 0

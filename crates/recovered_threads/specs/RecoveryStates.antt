@@ -10,7 +10,7 @@ use Rattle.machine_model.specs.declared.phase.Phase.{Phase}
 use Rattle.machine_model.specs.declared.phase.Phase.TheVariants.{Take, Wait, Resume, Run, Done, Ended}
 use Rattle.machine_model.specs.Machine.{Hart, World, moved, happens, after_event, reply_to, resume_of}
 use Rattle.flow_graph.specs.Actions.{FlowState, seen_by}
-use Rattle.log_states.specs.Logs.{Record, nothing_recorded, side_of}
+use Rattle.log_states.specs.Logs.{IsDurable, Record, frame_in, nothing_recorded, side_of}
 use Rattle.log_states.specs.Laws.{IsAtRecord}
 use Rattle.log_states.specs.Machines.{IsElsewhere}
 use Rattle.log_states.specs.LogInvariant.{LogInv}
@@ -18,8 +18,8 @@ use Rattle.code_runs.specs.ComputingRuns.{config}
 use Rattle.hart_runs.specs.Calls.{IsInPhase}
 use Rattle.hart_runs.specs.HartsOnRuns.{IsRunningAt}
 use Rattle.thread_code.specs.Plans.{Plan}
-use Rattle.thread_code.specs.RegistersAtNodes.{Enters}
-use Rattle.recovered_threads.specs.RecordDescriptions.{Code, IsInside, locks_of}
+use Rattle.thread_code.specs.RegistersAtNodes.{LogView}
+use Rattle.recovered_threads.specs.RecordDescriptions.{Code, IsCountedWord, IsInside, MayGoOn, locks_of, words_in}
 
 -- the hart holds all locks of the record that there are
 abbrev pub HoldsAll : World → (h : ℕ) → Record → Type 0
@@ -85,7 +85,7 @@ pub data AreRecovering (w : World) (records : ℕ → Record) : Type 0 where
 
 -- where the event is a step, it stores nothing to another hart's log
 abbrev pub StoresApart : List (List Slot) → World → Event → Type 0
-StoresApart program w event = (g h : ℕ) → event ≡ Step g → h ≢ g → IsElsewhere program w g h
+StoresApart program w event = (g h : ℕ) → event ≡ Step g → h ≢ g → IsElsewhere program w [] g h
 
 -- a step of a hart that waits for the others: it is let through once none of them takes locks
 pub data Awaits (program : List (List Slot)) (w : World) (records : ℕ → Record) (h : ℕ) : Type 0 where
@@ -93,7 +93,11 @@ pub data Awaits (program : List (List Slot)) (w : World) (records : ℕ → Reco
       AreGathered (after_event program w (Step h)) records → Awaits program w records h
   one_takes : (g : ℕ) → IsInPhase w g Take → happens program w (Step h) ≡ (w, Barrier g) → Awaits program w records h
 
--- a step that resumes a thread: it goes on where its record says, with registers that represent what it sees in the kept state
+-- a thread's log as it was at the boundary of the record, but on the record's side
+abbrev pub view_resumed : Record → LogView → LogView
+view_resumed r view = record view { side = side_of r }
+
+-- a step that resumes a thread: it goes on where its record says, as it may in the kept state
 pub record ResumesThread {p : Plan} (program : List (List Slot)) (code : Code p) (kept : FlowState) (w : World) (hart : Hart) (r : Record) : Type 0 where
   pub told : IsInside p code kept r
   pub after : Hart
@@ -102,7 +106,10 @@ pub record ResumesThread {p : Plan} (program : List (List Slot)) (code : Code p)
   pub pc : after.pc ≡ resume_of r.point
   -- an address of the object's table
   pub listed : Contains code.program.resumes after.pc
-  pub enters : Enters p code.thread told.graph_thread.at (seen_by kept told.graph_thread) (side_of r) after.registers
+  pub may : MayGoOn p code.thread told.graph_thread.at told.place (seen_by kept told.graph_thread) (view_resumed r told.view) told.owed after.registers
+  -- each word of its frame on which it counts has its number, durably
+  pub frame : (word : ℕ) → IsCountedWord p code.thread told.graph_thread.at told.place word →
+      IsDurable (frame_in w.log w.words code.thread.number word) (words_in p.log code.thread.number told.view word)
   pub at_record : IsAtRecord w.log r (side_of r) after.registers
   pub queue : after.queue ≡ hart.queue
   -- a run begins from where the thread is resumed

@@ -1,4 +1,5 @@
 //! What is true of records and of recovery: nothing is computed here.
+ghost use Rattle.recovered_threads.specs.Laws.{AssignedIsApart, WordsAreListed, WordsExist};
 ghost use Rattle.recovered_threads.specs.Laws.{BoundariesRecover, CommitsDescribe, CrashesAgain, CrashesGather, CrashesRecover, DurableLocksAreApart};
 ghost use Rattle.recovered_threads.specs.Laws.{DurableLocksAreHeld, DurablePointsSettle, EventsRecover, GatheredAreKept, GatheredGoOn, HartsGoOn, LocksAreHeld};
 ghost use Rattle.recovered_threads.specs.Laws.{LogsHaveLocks, OthersDescribe, PointsHaveLocks, PointsSettle, ReadyAsKept, RecoveringDescribes, RecordsAreApart};
@@ -33,13 +34,22 @@ pub fn locks_are_gathered()
     ensures ready { ReadyAsKept }
 {}
 
-/// A hart goes on where its record says, with registers that represent what its thread sees in the kept state.
+/// A hart goes on where its record says, with registers that represent what its thread sees in the kept state, and with the words of its frame on
+/// which it counts there.
 pub fn harts_go_on()
     ensures { HartsGoOn }
 {}
 
+/// The words of its frame in which those locals stand on which a thread counts at a node can be listed: they exist, and the word that a logged
+/// assignment stores is none of them.
+pub fn words_are_counted()
+    ensures listed { WordsAreListed }
+    ensures exist { WordsExist }
+    ensures apart { AssignedIsApart }
+{}
+
 /// A boundary can be recovered from, and where it is committed, its record describes the state that is kept with it; the other threads'
-/// records go on to describe the kept state.
+/// records go on to describe the kept state, where what they assign next stays the same.
 pub fn commits_describe()
     ensures recoverable { BoundariesRecover }
     ensures own { CommitsDescribe }

@@ -19,3 +19,6 @@ mod StretchRegions
 mod StretchPaths
 mod FewBoundaries
 mod StraightCode
+mod EachWrite
+mod SetsOfThreads
+mod WorkedEachWrite

@@ -36,7 +36,7 @@ masked (false ∷ h) zero is zero' = cc
 masked (true ∷ h) (suc m) is zero' = omega (arith, zero')
 masked (false ∷ h) (suc m) is zero' = masked h m is (omega (arith, zero'))
 
-none_either : {X : Type 0} (b : Bool) (x : X) (o : Option X) → cond b (Some x) o ≡ None → (b ≡ false) × (o ≡ None)
+pub none_either : {X : Type 0} (b : Bool) (x : X) (o : Option X) → cond b (Some x) o ≡ None → (b ≡ false) × (o ≡ None)
 none_either true x o e = absurd (cc)
 none_either false x o e = (refl, e)
 
@@ -199,7 +199,7 @@ module _ (x : f.Flat) where
       (guarded_all x.variables (lock_names x t) (table_of x t) d first (first + statements_count t.body))
       (quiet x.variables (lock_names x t) (held_after_all (lock_names x t) start t.body) _ refl, tt)
 
-  sets_long : (t : f.Thread) (sets : List Held) → AreSetsOf x t sets → length sets ≡ thread_count t
+  pub sets_long : (t : f.Thread) (sets : List Held) → AreSetsOf x t sets → length sets ≡ thread_count t
   sets_long t sets are = omega (arith, are.each_step, steps_all t.body)
 
   nodes_long : (t : f.Thread) (first : ℕ) → IsDisciplined x t → length (thread_nodes (table_of x t) t first) ≡ thread_count t
@@ -297,8 +297,9 @@ module _ (x : f.Flat) where
       (slice_get x.threads n ≡ Some t)
   thread_of table n sets are at = found_in x.threads n (omega (arith, slice_get_within table n sets at, are.each_thread))
 
-  guarded_step : (table : List (List Held)) (thread step node : ℕ) (held : Held) (y : Node) → AreAllSetsOf x table → IsHeldAt x table thread step node held →
-      NodeAt (lowered x) node y → (t : f.Thread) × (slice_get x.threads thread ≡ Some t) × Guarded x.variables (lock_names x t) held y
+  guarded_step : (table : List (List Held)) (thread step node : ℕ) (held : Held) (y : Node) → AreAllSetsOf x table →
+      IsHeldAt (lowered x) table thread step node held → NodeAt (lowered x) node y →
+      (t : f.Thread) × (slice_get x.threads thread ≡ Some t) × Guarded x.variables (lock_names x t) held y
   guarded_step table thread step node held y are h at =
       let t = thread_of table thread h.sets are h.row in
       let sets = are.sets thread t.0 h.sets t.1 h.row in

@@ -7,3 +7,4 @@ pub mod RegionLimits
 pub mod Stretches
 pub mod FewBoundaries
 pub mod CoveredReads
+pub mod AddedBoundaries

@@ -1,4 +1,5 @@
 //! What holds of boundaries and locks: nothing is computed here.
+ghost use Rattle.region_cutter.specs.EachWrite.{HeldSetsAreOfThreads};
 ghost use Rattle.region_cutter.specs.FewestCuts.{LabelsBound};
 ghost use Rattle.region_cutter.specs.LocksAtBoundaries.{ChosenAreLocked, NodesAreSteps};
 
@@ -14,4 +15,9 @@ pub fn chosen_boundaries_are_locked()
 /// may be in one region, show that each cut set has so many boundaries there, or more.
 pub fn labels_bound_boundaries()
     ensures { LabelsBound }
+{}
+
+/// The sets of held locks of a well formed flat form, whose price isn't too high, are a table that `cut_each_write` takes beside its graph.
+pub fn held_sets_are_of_threads()
+    ensures { HeldSetsAreOfThreads }
 {}

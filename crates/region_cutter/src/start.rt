@@ -1,4 +1,5 @@
-//! The boundaries that are tried: after each lock, before each unlock and before each node that writes.
+//! Boundaries after each lock, before each unlock and before each node that writes: none else is tried, and none of them is tried
+//! where a section logs each write by itself.
 ghost use Rattle.std.specs.Prelude.{◌≡◌, IfOk, map};
 ghost use Rattle.flow_graph.specs.Nodes.{graph_of, node_of};
 ghost use Rattle.flow_graph.specs.IdempotentCuts.{boundaries_of};

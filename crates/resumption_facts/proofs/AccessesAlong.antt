@@ -6,7 +6,7 @@ use Rattle.machine_model.specs.Machine.{World, after_event, after_events}
 use Rattle.crash_simulation.specs.Accesses.{Access, first_access, first_access_after, first_access_along}
 use Rattle.crash_simulation.specs.StorePositions.{last_store, last_store_after, last_store_along}
 use Rattle.thread_runs.specs.Laws.{FragmentsGoOn}
-use Rattle.crash_simulation.specs.InstructionSteps.{CoresStep, FragmentsStep}
+use Rattle.crash_simulation.specs.InstructionSteps.{CoresStep, FragmentsStep, LocalStoresStep}
 use Rattle.crash_simulation.specs.SimulationRelation.{Simulates}
 use Rattle.crash_simulation.specs.Systems.{System, IsSystem}
 use Rattle.crash_simulation.proofs.Public.{event_goes_on, first_life, first_origin, life_stands}
@@ -18,13 +18,13 @@ module _ (y : System) (s : IsSystem y) where
     pub last : (h word : ℕ) → (stands.ghosts h).last_stores word ≡ stores h word
     pub first : (h byte : ℕ) → (stands.ghosts h).first_accesses byte ≡ firsts h byte
 
-  module _ (fragments_step : FragmentsStep) (cores_step : CoresStep) (law : FragmentsGoOn) where
+  module _ (fragments_step : FragmentsStep) (cores_step : CoresStep) (local_stores_step : LocalStoresStep) (law : FragmentsGoOn) where
     along : (events : List Event) (w : World) (stores : (h word : ℕ) → Option ℕ) (firsts : (h byte : ℕ) → Option Access) → TellsAccesses w stores firsts →
         TellsAccesses (after_events y.runs.program w events) (λ h word. last_store_along y.runs.program w events h word (stores h word))
         (λ h byte. first_access_along y.runs.program w events h byte (firsts h byte))
     along [] w stores firsts t = t
     along (event ∷ events) w stores firsts t =
-        let o = event_goes_on fragments_step cores_step law y s w event t.stands in
+        let o = event_goes_on fragments_step cores_step local_stores_step law y s w event t.stands in
         along events (after_event y.runs.program w event) (λ h word. last_store_after y.runs.program w event h word (stores h word))
         (λ h byte. first_access_after y.runs.program w event h byte (firsts h byte)) (record {
           stands = o.next;

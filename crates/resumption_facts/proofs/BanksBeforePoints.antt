@@ -4,7 +4,7 @@ use Rattle.std.proofs.Common.{arith, ◌≤◌, Option, Some}
 use Rattle.std.proofs.lemmas.Bool.{eqb-true, true≢false}
 use Rattle.ido_base.specs.Layout.{byte_number, word_number}
 use Rattle.ido_base.specs.Locks.{has_lock}
-use Rattle.ido_base.specs.Words.{word_at}
+use Rattle.ido_base.specs.Words.{last_position, word_at}
 use Rattle.log_schemes.specs.declared.log.Log.{Log}
 use Rattle.log_schemes.specs.Layout.{log_of, point_at, slot_at}
 use Rattle.rv64_isa.specs.Rows.{Effect, Continues, Loads, Stores, Cleans, Fences, Calls}
@@ -17,10 +17,10 @@ use Rattle.machine_model.specs.Schedule.{all_lives, harts_of, is_point_store, is
 use Rattle.flow_graph.specs.Lockstep.{Matches}
 use Rattle.c_tree.specs.Source.{State}
 use Rattle.source_machine.specs.StepExchanges.{steps_of}
-use Rattle.log_states.specs.Logs.{HasBank, Record}
+use Rattle.log_states.specs.Logs.{HasBank, HasFrame, Record}
 use Rattle.log_states.specs.Machines.{IsLogEffect, IsNext, CleansLine, PassesFence, StoresWord, config_of}
 use Rattle.log_states.specs.Stages.{LogConfig, LogIs, Over, IsWriting, PointQueued, Pointed, Stage, Writing, Written, fences_ahead, is_committed, is_store}
-use Rattle.log_states.proofs.Public.{address_of, boundaries_stay_in, log_facts, slot_in_log, variables_are_apart, word_of_log}
+use Rattle.log_states.proofs.Public.{address_of, boundaries_stay_in, frame_not_point, log_facts, slot_in_log, variables_are_apart, word_of_log}
 use Rattle.hart_runs.specs.Calls.{IsInPhase}
 use Rattle.recovery_semantics.specs.Attempts.{Writes}
 use Rattle.recovery_semantics.specs.Configs.{attempt_of, now}
@@ -33,9 +33,9 @@ use Rattle.recovered_threads.proofs.Public.{locks_are_held}
 use Rattle.thread_runs.specs.Laws.{FragmentsGoOn, MarksPass}
 use Rattle.crash_simulation.specs.AbstractRuns.{AbstractRun, now_of}
 use Rattle.crash_simulation.specs.AccountRelation.{MachinesResume, SimulatesLives, first_beginning}
-use Rattle.crash_simulation.specs.InstructionSteps.{CoresStep, FragmentsStep, IsReadyToStep, SimulatesReady, Site}
+use Rattle.crash_simulation.specs.InstructionSteps.{CoresStep, FragmentsStep, IsReadyToStep, LocalStoresStep, SimulatesReady, Site}
 use Rattle.crash_simulation.specs.SimulationRelation.{AreHeld, Simulates}
-use Rattle.crash_simulation.specs.ThreadGhosts.{IsWordOf, durable_there, comes_with, recorded_in}
+use Rattle.crash_simulation.specs.ThreadGhosts.{IsWordOf, durable_there, comes_with, in_frame, recorded_in}
 use Rattle.crash_simulation.specs.Systems.{System, IsSystem, flat_of, places_of}
 use Rattle.crash_simulation.proofs.Public.{as_source, now_orderly, resumed, runs_held, runs_ready, point_settled, same_number, view, word_durable}
 use Rattle.compiler_correctness.specs.Compilation.{HartHolds}
@@ -46,17 +46,14 @@ use Rattle.compiler_correctness.proofs.Public.{kept_is, now_is}
 use Rattle.resumption_facts.specs.BanksBeforePoints.{BanksComeBeforePoints, IsUnkeptStore}
 use Rattle.resumption_facts.proofs.BegunStores.{written_by}
 use Rattle.resumption_facts.proofs.AccessesAlong.{accesses_told}
-use Rattle.resumption_facts.proofs.OwnStores.{IsInBoundary, IsStored, in_boundary, own_store, to_element}
+use Rattle.resumption_facts.proofs.SectionsUnderWay.{sectioned}
+use Rattle.resumption_facts.proofs.OwnStores.{IsInBoundary, IsStored, first_address, in_boundary, own_store, to_element, to_frame}
 
 -- ---- The store of a point
 
 abbrev first_stores : List Effect → Bool
 first_stores [] = false
 first_stores (effect ∷ effects) = is_store effect
-
-abbrev first_address : List Effect → ℕ
-first_address [] = 0
-first_address (effect ∷ effects) = address_of effect
 
 -- a store of a point is one
 pub record IsStore (effect : Effect) (word : ℕ) : Type 0 where
@@ -94,28 +91,32 @@ module _ (log : Log) (thread : ℕ) (old new : Record) (m : LogConfig) (l : LogI
   whole : IsPoint
   whole = whole_by (boundaries_stay_in log thread old new m (Stores address bytes value) later l does).0
 
-  -- its bank is durable
-  found : (whole.point ≡ new.point) × HasBank log thread new m.words
+  -- its bank is durable, and so are the words of the frame on which it counts
+  found : (whole.point ≡ new.point) × HasBank log thread new m.words × HasFrame log thread new m.words
   found = log_facts.bank_before_point.bank log thread old new m whole.point later l (does ∙ ap (λ (e : Effect). e ∷ later) whole.is)
 
   pub bank_found : HasBank log thread new m.words
   bank_found = found.1
 
+  pub frame_found : HasFrame log thread new m.words
+  frame_found = found.2
+
   pub stores_new : Stores address bytes value ≡ Stores (point_at log thread) 8 new.point
   stores_new = whole.is ∙ ap (λ (point : ℕ). Stores (point_at log thread) 8 point) found.0
 
   -- and one fence is ahead of it
-  none_written : (slots lines : List ℕ) → IsWriting log thread new slots lines m → ⊥
-  none_written [] [] w = true≢false (ap first_stores (sym does ∙ w.rest))
-  none_written [] (line ∷ lines) w = true≢false (ap first_stores (sym does ∙ w.rest))
-  none_written (slot ∷ slots) lines w =
+  none_written : (slots lines framing : List ℕ) → IsWriting log thread new slots lines framing m → ⊥
+  none_written [] [] [] w = true≢false (ap first_stores (sym does ∙ w.rest))
+  none_written [] [] (line ∷ framing) w = true≢false (ap first_stores (sym does ∙ w.rest))
+  none_written [] (line ∷ lines) framing w = true≢false (ap first_stores (sym does ∙ w.rest))
+  none_written (slot ∷ slots) lines framing w =
       let at : word_number address ≡ word_number (slot_at log thread (bank_of new.point) slot) =
       ap (λ (es : List Effect). word_number (first_address es)) (sym does ∙ w.rest) in
       omega (arith, at, there, slot_in_log log thread (bank_of new.point) slot)
 
   by_stage : Stage log thread old new m → fences_ahead m.rest ≡ 1
-  by_stage (Writing slots lines w h) = absurd (none_written slots lines w)
-  by_stage (Written rest h bank) = ap fences_ahead rest
+  by_stage (Writing slots lines framing w h) = absurd (none_written slots lines framing w)
+  by_stage (Written rest h bank frame) = ap fences_ahead rest
   by_stage (Pointed rest h) = absurd (true≢false (ap first_stores (sym does ∙ rest)))
   by_stage (PointQueued rest h r) = absurd (true≢false (ap first_stores (sym does ∙ rest)))
   by_stage (Over rest h) = absurd (true≢false (ap first_stores (sym does ∙ rest)))
@@ -141,6 +142,7 @@ module _ {y : System} {s : IsSystem y} {w : World} {h : ℕ} (site : Site y s w 
     pub recorded : Record
     pub stores : effect ≡ Stores (point_at w.log n) 8 recorded.point
     pub bank : HasBank w.log n recorded w.words
+    pub frame : HasFrame w.log n recorded w.words
     pub describes : Describes y.plan code (now_of y b) recorded
     pub taken : (lock : ℕ) → has_lock (locks_of recorded) lock ≡ true → HartHolds w n lock
     pub stored : (word position : ℕ) → c.last_stores word ≡ Some position → position ≤ (word_at w.words word).durable
@@ -174,6 +176,12 @@ module _ {y : System} {s : IsSystem y} {w : World} {h : ℕ} (site : Site y s w 
             (λ slot same. omega (arith, same, there, slot_in_log w.log n (bank_of i.new.point) slot)) word
             (subst (λ (r : Record). IsWordOf w.log n r word) (sym new) among) in
             omega (arith, low, settled)
+        | in_frame own framed in_word low ↦
+            let in_section = sectioned y s w b code c t before (λ none. (let both : [] ≡ store ∷ i.later = sym none ∙ rest in cc)) in
+            let f = t.stored.frame in_section own framed in
+            let fenced = f.fenced before (omega (arith, few rest)) in
+            subst (λ (k : ℕ). position ≤ last_position (word_at w.words k) → position ≤ (word_at w.words k).durable) in_word (λ low_there.
+            omega (arith, low_there, fenced)) low
       ]
 
       -- of the attempt's elements only the numbers of now can be left
@@ -195,6 +203,7 @@ module _ {y : System} {s : IsSystem y} {w : World} {h : ℕ} (site : Site y s w 
             stores = stores_new w.log n i.old i.new at i.log address bytes value i.later refl there
                 ∙ ap (λ (r : Record). Stores (point_at w.log n) 8 r.point) new;
             bank = subst (λ (r : Record). HasBank w.log n r w.words) new (bank_found w.log n i.old i.new at i.log address bytes value i.later refl there);
+            frame = subst (λ (r : Record). HasFrame w.log n r w.words) new (frame_found w.log n i.old i.new at i.log address bytes value i.later refl there);
             describes = describes;
             taken = λ lock among.
                 held.holds lock n ((locks_are_held y.plan code (now_of y b) c.new s.plan (now_orderly y s b) describes lock).0 among);
@@ -208,6 +217,7 @@ module _ {y : System} {s : IsSystem y} {w : World} {h : ℕ} (site : Site y s w 
 
     finds_in : IsStored site address bytes value → Finds store
     finds_in (to_element to) = absurd (omega (arith, there, variables_are_apart w.log n address 0 to.low))
+    finds_in (to_frame to) = absurd (frame_not_point w.log n to.own (ap word_number (sym to.address_is) ∙ there))
     finds_in (in_boundary i) = finds_by i i.stage
 
   module _ (law : FragmentsGoOn) (marks : MarksPass) where
@@ -273,8 +283,8 @@ stable_at y s events resumes b same memory h v e stable writes =
     coe 0 1 (i. Writes (kept i) h (steps_of h (pending i)) v e) writes in
     coe 1 0 (i. IsStable (history_at (memory i) v e) (number_at (later i) v e)) (stable begun)
 
-pub banks_come_before_points : MachinesResume → FragmentsStep → CoresStep → FragmentsGoOn → MarksPass → BanksComeBeforePoints
-banks_come_before_points machines fragments_step cores_step law marks y s events h hart effect next is =
+pub banks_come_before_points : MachinesResume → FragmentsStep → CoresStep → LocalStoresStep → FragmentsGoOn → MarksPass → BanksComeBeforePoints
+banks_come_before_points machines fragments_step cores_step local_stores_step law marks y s events h hart effect next is =
     let w = world (translation_of y) events in
     let resumes = machines y s events in
     let stands : Simulates y s w = resumes.is.stands in
@@ -283,11 +293,12 @@ banks_come_before_points machines fragments_step cores_step law marks y s events
     let z = site.stands in
     let number = same_number site in
     let f = finds_now y s w stands h hart effect next law marks is in
-    let told = accesses_told y s fragments_step cores_step law events in
+    let told = accesses_told y s fragments_step cores_step local_stores_step law events in
     record {
       recorded = f.recorded;
       stores = f.stores ∙ ap (λ (n : ℕ). Stores (point_at w.log n) 8 f.recorded.point) number;
       bank = subst (λ (n : ℕ). HasBank w.log n f.recorded w.words) number f.bank;
+      frame = subst (λ (n : ℕ). HasFrame w.log n f.recorded w.words) number f.frame;
       below = site.below;
       state = now_of y z.abstract;
       matches = subst (λ (state : State). Matches (flat_of y) (now_of y z.abstract) state)

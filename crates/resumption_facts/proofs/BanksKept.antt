@@ -1,9 +1,9 @@
 -- No bank is stored to that a point names, by whichever hart.
-use Rattle.std.proofs.Common.{◌≡◌, ◌≢◌, inl, inr, refl, ℕ, ◌/◌, ◌<◌, List, ◌∷◌, ap, sym, ◌∙◌, subst, Option, Some, None, slice_get, arith}
+use Rattle.std.proofs.Common.{◌≡◌, ◌≢◌, inl, inr, refl, ℕ, ◌/◌, ◌<◌, List, [], ◌∷◌, ap, sym, ◌∙◌, subst, Option, Some, None, slice_get, arith}
 use Rattle.machine_events.specs.declared.event.Event.{Event}
 use Rattle.machine_events.specs.declared.event.Event.TheVariants.{Step, Evict, Crash, Start}
 use Rattle.ido_base.specs.Growth.{ArePersisted, AreEntries}
-use Rattle.ido_base.specs.Layout.{byte_number}
+use Rattle.ido_base.specs.Layout.{byte_number, word_number}
 use Rattle.ido_base.specs.Words.{Entry, Word, evicted}
 use Rattle.ido_base.proofs.Public.{evictions_raise, write_backs_raise}
 use Rattle.log_schemes.specs.Layout.{log_words}
@@ -16,20 +16,20 @@ use Rattle.variable_words.specs.MemoryEffects.{IsWork, Makes, Queues, Rests, Wri
 use Rattle.variable_words.proofs.Public.{steps_work}
 use Rattle.log_states.specs.Logs.{IsInBank, bank_word, log_word}
 use Rattle.log_states.specs.Machines.{IsNext, config_of}
-use Rattle.log_states.proofs.Public.{log_facts, scheme, slot_in_log, variables_are_apart, word_beside}
+use Rattle.log_states.proofs.Public.{frame_not_slot, log_facts, scheme, slot_in_log, variables_are_apart, word_beside}
 use Rattle.hart_runs.specs.Calls.{IsInPhase}
 use Rattle.recovered_threads.proofs.Public.{same_or_other}
 use Rattle.thread_runs.specs.Laws.{FragmentsGoOn, MarksPass}
 use Rattle.crash_simulation.specs.AccountRelation.{MachinesResume}
-use Rattle.crash_simulation.specs.InstructionSteps.{CoresStep, FragmentsStep}
+use Rattle.crash_simulation.specs.InstructionSteps.{CoresStep, FragmentsStep, LocalStoresStep}
 use Rattle.crash_simulation.specs.SimulationRelation.{Simulates}
 use Rattle.crash_simulation.specs.Systems.{System, IsSystem}
 use Rattle.crash_simulation.proofs.Public.{elsewhere, next_store, not_there, own_by, runs_held, runs_ready, same_number}
 use Rattle.resumption_facts.specs.BanksKept.{BanksAreKept}
 use Rattle.resumption_facts.specs.Points.{IsPointOf, named_in}
-use Rattle.resumption_facts.proofs.OwnStores.{in_boundary, own_store, to_element}
+use Rattle.resumption_facts.proofs.OwnStores.{in_boundary, own_store, to_element, to_frame}
 
-module _ (fragments_step : FragmentsStep) (cores_step : CoresStep) (law : FragmentsGoOn) (marks : MarksPass)
+module _ (fragments_step : FragmentsStep) (cores_step : CoresStep) (local_stores_step : LocalStoresStep) (law : FragmentsGoOn) (marks : MarksPass)
     (y : System) (s : IsSystem y) (w : World) (stands : Simulates y s w) (h point slot : ℕ)
     (named : IsPointOf w h point) (some : point ≢ 0) (inside : IsInBank w.log slot) where
   abbrev word : ℕ
@@ -55,8 +55,9 @@ module _ (fragments_step : FragmentsStep) (cores_step : CoresStep) (law : Fragme
     by_other : g ≢ h → IsBeside
     by_other other same =
         let r = runs_ready y s w g stands i in
-        let o = own_by fragments_step cores_step y s w g r.site i r.ready in
-        elsewhere y s w g r.site.stands.abstract r.site.stands.machine.log o.stores_own h other hart address bytes value next index below (same ∙ in_log)
+        let o = own_by fragments_step cores_step local_stores_step y s w g r.site i r.ready in
+        other (elsewhere y s w g r.site.stands.abstract r.site.stands.machine.log o.stores_own h other [] hart address bytes value next index below
+        (same ∙ in_log)).0
 
     by_own : g ≡ h → IsBeside
     by_own own =
@@ -69,6 +70,10 @@ module _ (fragments_step : FragmentsStep) (cores_step : CoresStep) (law : Fragme
         marks held r.ready in
         elim it [
           | to_element to ↦ λ same. variables_are_apart w.log h address index to.low (same ∙ in_log)
+          | to_frame to ↦
+              subst (λ (n : ℕ). byte_number address / 8 ≢ bank_word w.log n (bank_of point) slot) (number ∙ own) (λ same.
+              frame_not_slot w.log _ to.own (bank_of point) slot to.framed (omega arith) inside
+              (ap word_number (sym to.address_is) ∙ same))
           | in_boundary b ↦
               subst (λ (n : ℕ). byte_number address / 8 ≢ bank_word w.log n (bank_of point) slot) (number ∙ own)
               (log_facts.bank_kept w.log _ b.old b.new (config_of w b.hart (Stores address bytes value ∷ b.later)) address bytes value b.later b.log refl
@@ -116,6 +121,6 @@ module _ (fragments_step : FragmentsStep) (cores_step : CoresStep) (law : Fragme
   kept_by Crash powered = absurd (powered refl)
   kept_by Start powered = after_start y.runs.program w (λ (v : World). Kept v.words) refl refl
 
-pub banks_are_kept : MachinesResume → FragmentsStep → CoresStep → FragmentsGoOn → MarksPass → BanksAreKept
-banks_are_kept machines fragments_step cores_step law marks y s events h _ event point slot powered named some inside =
-    kept_by fragments_step cores_step law marks y s _ (machines y s events).is.stands h point slot named some inside event powered
+pub banks_are_kept : MachinesResume → FragmentsStep → CoresStep → LocalStoresStep → FragmentsGoOn → MarksPass → BanksAreKept
+banks_are_kept machines fragments_step cores_step local_stores_step law marks y s events h _ event point slot powered named some inside =
+    kept_by fragments_step cores_step local_stores_step law marks y s _ (machines y s events).is.stands h point slot named some inside event powered

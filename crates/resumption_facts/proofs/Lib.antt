@@ -1,5 +1,6 @@
 mod Calls
 mod OwnStores
+mod SectionsUnderWay
 mod BegunStores
 mod AccessesAlong
 mod BanksBeforePoints

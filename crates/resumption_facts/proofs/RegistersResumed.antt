@@ -1,11 +1,11 @@
 -- A hart that is resumed has the registers that it has recorded.
-use Rattle.std.proofs.Common.{◌≡◌, refl, ℕ, ◌<◌, List, [], ap, sym, ◌∙◌, subst, Bool, Contains, slice_get, slice_set, if◌then◌else◌, arith}
+use Rattle.std.proofs.Common.{◌≡◌, refl, ℕ, ◌<◌, List, [], length, ap, sym, ◌∙◌, subst, Bool, Contains, slice_get, slice_set, if◌then◌else◌, arith}
 use Rattle.std.proofs.lemmas.Option.{slice_get_within}
 use Rattle.machine_events.specs.declared.event.Event.TheVariants.{Step}
 use Rattle.c_tree.specs.Source.{State}
 use Rattle.rv64_isa.specs.Rows.{read}
 use Rattle.machine_model.specs.declared.phase.Phase.TheVariants.{Resume}
-use Rattle.machine_model.specs.Machine.{Hart, Outcome, World, happens, moved, resumed_registers}
+use Rattle.machine_model.specs.Machine.{Hart, Outcome, World, happens, live_at, moved, resume_of, resumed_registers}
 use Rattle.machine_model.proofs.Public.{get-set_same}
 use Rattle.flow_graph.specs.Lockstep.{Matches}
 use Rattle.hart_runs.specs.Calls.{IsInPhase}
@@ -16,14 +16,20 @@ use Rattle.log_states.specs.Machines.{config_of}
 use Rattle.log_states.proofs.Public.{ends, log_facts}
 use Rattle.recovered_threads.specs.RecordDescriptions.{Code, Describes}
 use Rattle.recovered_threads.specs.RecoveryStates.{Gathers, HasGathered, IsRecoveredHart, ResumesThread}
-use Rattle.recovered_threads.specs.RecordDescriptions.{IsInside, ResumesAt, at_chosen, past_lock, past_unlock}
+use Rattle.recovered_threads.specs.RecordDescriptions.{CountsOn, IsInside, MayGoOn, NodePlace, ResumesAt, at_chosen, past_lock, past_unlock}
+use Rattle.recovered_threads.specs.RecordDescriptions.{registers_kept, the_entry}
 use Rattle.recovered_threads.proofs.Public.{harts_go_on}
 use Rattle.thread_code.specs.Programs as table
 use Rattle.thread_code.specs.Programs.{IsResumeAddress}
 use Rattle.code_runs.specs.CodeTraces.{MarkedEnvironment}
 use Rattle.code_runs.specs.ComputingRuns.{config}
 use Rattle.hart_runs.specs.HartsOnRuns.{IsRunningAt}
-use Rattle.thread_runs.specs.Laws.{AreResumed, ResumedGoOn, node_resumed}
+use Rattle.expr_code.specs.EvaluationCode.{home_of}
+use Rattle.expr_code.specs.declared.home.Home.TheVariants.{InFrame}
+use Rattle.log_schemes.specs.Layout.{frame_at}
+use Rattle.thread_code.specs.RegistersAtNodes.{Enters, LogView}
+use Rattle.thread_runs.specs.CodeFragments.{IsPlaced}
+use Rattle.thread_runs.specs.Laws.{AreResumed, MayEnterAgain, ResumedGoOn, node_resumed}
 use Rattle.crash_simulation.proofs.Public.{placed}
 use Rattle.log_schemes.specs.declared.log.Log.{Log}
 use Rattle.log_states.specs.Logs.{Record, side_of}
@@ -40,7 +46,7 @@ use Rattle.compiler_correctness.specs.Translations.{steps, world}
 use Rattle.compiler_correctness.proofs.Public.{kept_is}
 use Rattle.thread_runs.specs.CodeFragments.{on_machine}
 use Rattle.thread_runs.specs.Laws.{IsUnderFragment}
-use Rattle.resumption_facts.specs.RegistersResumed.{NeedsNoOthers, RegistersAreResumed, StandsResumed}
+use Rattle.resumption_facts.specs.RegistersResumed.{NeedsNoOthers, RegistersAreResumed, StandsResumed, view_in}
 
 module _ (y : System) (s : IsSystem y) (w : World) (stands : Simulates y s w) (h : ℕ) (i : IsInPhase w h Resume) where
   open stands use {abstract as b}
@@ -111,32 +117,69 @@ module _ (go_on : ResumedGoOn) (y : System) (s : IsSystem y) (h : ℕ) (below : 
   abbrev sees : Seen
   sees = seen_by state graph_thread
 
-  resumed_so : AreResumed y.plan thread is.places graph_thread.at sees (side_of recorded) registers
-  resumed_so = record {
-    kept = recorded.registers;
-    old = told.side;
-    entered = told.enters;
-    at_side = subst (λ (l : Log). IsOnSide l (side_of recorded) registers) (sym there.log) there.side;
-    same = λ register live. there.same register (subst (λ (rs : List ℕ). Contains rs register) (sym told.live) live);
-  }
+  abbrev node : ℕ
+  node = told.graph_thread.at
+
+  abbrev log_there : LogView
+  log_there = view_in v recorded
+
+  abbrev Leads : Type 0
+  Leads = IsUnderFragment y.plan thread is.places (on_machine y.runs.program v thread.number environment) node sees log_there told.owed registers
+
+  on_side : IsOnSide y.plan.log (side_of recorded) registers
+  on_side = subst (λ (l : Log). IsOnSide l (side_of recorded) registers) (sym there.log) there.side
+
+  placed_there : IsPlaced y.plan thread is.places v.log (length v.harts)
+  placed_there = placed y s v h below there.log there.count
+
+  -- a word of its frame that its record counts on
+  counted_on : (local address : ℕ) → CountsOn y.plan thread node told.place local → home_of thread.locals local ≡ InFrame address →
+      live_at v.words address ≡ told.view.frame address
+  counted_on local address counts home =
+      let own = placed_there.words local address home in
+      let at : address ≡ frame_at y.plan.log thread.number own.word = own.is ∙ ap (λ (l : Log). frame_at l thread.number own.word) (sym there.log) in
+      let has = (told.framed own.word).1 (record { local = local; counted = counts; home = home ∙ ap InFrame at }) in
+      ap (live_at v.words) own.is ∙ (there.frame own.word has ∙ (told.frame own.word has ∙ ap told.view.frame (sym at)))
 
   leads : (address : ℕ) (r : IsResumeAddress y.plan thread is.places address) → IsRunningAt v thread.number (config registers address) →
-      AreResumed y.plan thread is.places (node_resumed y.plan thread is.places r) sees (side_of recorded) registers →
-      IsUnderFragment y.plan thread is.places (on_machine y.runs.program v thread.number environment) (node_resumed y.plan thread is.places r) sees
-      (side_of recorded) registers
+      AreResumed y.plan thread is.places r sees log_there told.owed registers →
+      IsUnderFragment y.plan thread is.places (on_machine y.runs.program v thread.number environment) (node_resumed y.plan thread is.places r) sees log_there
+      told.owed registers
   leads address r =
-      go_on y.plan thread y.runs.program own_program is v thread.number environment address r sees (side_of recorded) registers
-      (placed y s v h below there.log there.count) there.meets there.agrees
+      go_on y.plan thread y.runs.program own_program is v thread.number environment address r sees log_there told.owed registers placed_there there.meets
+      there.agrees
 
-  leads_from : (address : ℕ) → ResumesAt y.plan own_code graph_thread.at address → IsRunningAt v thread.number (config registers address) →
-      IsUnderFragment y.plan thread is.places (on_machine y.runs.program v thread.number environment) graph_thread.at sees (side_of recorded) registers
-  leads_from _ (at_chosen chosen) at = leads _ (table.at_chosen graph_thread.at own chosen) at resumed_so
-  leads_from _ (past_lock from lock row from_own found locks) at = leads _ (table.past_lock from lock graph_thread.at row from_own found locks) at resumed_so
-  leads_from _ (past_unlock from lock row from_own found unlocks holds) at =
-      leads _ (table.past_unlock from lock graph_thread.at row from_own found unlocks holds) at resumed_so
+  entered : recorded.live ≡ is.places.live node →
+      ((local address : ℕ) → CountsOn y.plan thread node the_entry local → home_of thread.locals local ≡ InFrame address →
+      live_at v.words address ≡ told.view.frame address) →
+      Enters y.plan thread node sees told.view recorded.registers → MayEnterAgain y.plan thread is.places node sees log_there registers
+  entered live counted enters = record {
+    kept = recorded.registers;
+    old = told.view;
+    entered = enters;
+    at_side = on_side;
+    frame = counted;
+    same = λ register has. there.same register (subst (λ (rs : List ℕ). Contains rs register) (sym live) has);
+  }
 
-  leads_on : IsUnderFragment y.plan thread is.places (on_machine y.runs.program v thread.number environment) graph_thread.at sees (side_of recorded) registers
-  leads_on = leads_from _ told.resumes there.at
+  leads_from : (place : NodePlace) (address : ℕ) → ResumesAt y.plan own_code node place address → recorded.live ≡ registers_kept is.places node place →
+      ((local word : ℕ) → CountsOn y.plan thread node place local → home_of thread.locals local ≡ InFrame word → live_at v.words word ≡ told.view.frame word) →
+      MayGoOn y.plan thread node place sees told.view told.owed recorded.registers → IsRunningAt v thread.number (config registers address) → Leads
+  leads_from _ _ (at_chosen chosen) live counted may at = leads _ (table.at_chosen node own chosen) at (record {
+    kept = recorded.registers;
+    old = told.view;
+    ready = may.0;
+    at_side = on_side;
+    frame = counted;
+    same = λ register has. there.same register (subst (λ (rs : List ℕ). Contains rs register) (sym live) has);
+  })
+  leads_from _ _ (past_lock from lock row from_own found locks) live counted may at =
+      leads _ (table.past_lock from lock node row from_own found locks) at (entered live counted may)
+  leads_from _ _ (past_unlock from lock row from_own found unlocks holds) live counted may at =
+      leads _ (table.past_unlock from lock node row from_own found unlocks holds) at (entered live counted may)
+
+  leads_on : Leads
+  leads_on = leads_from told.place (resume_of recorded.point) told.resumes told.live counted_on told.may there.at
 
 needs_no_others : ResumedGoOn → (y : System) (s : IsSystem y) (h : ℕ) (below : h < thread_count y) (state : FlowState) (recorded : Record) →
     (told : IsInside y.plan (s.codes.each h below) state recorded) → NeedsNoOthers y (s.codes.each h below) state recorded told
@@ -156,5 +199,6 @@ registers_are_resumed machines go_on y s events h i =
           (sym (kept_is y s w (steps (translation_of y) events) (machines y s events))) (as_source y s stands.abstract).kept_matches;
       resumes = goes y s w stands h i;
       registers = has_registers y s w stands h i;
+      few = (ready y s w stands h i).log.log.follows.new_is.live;
       needs_no_others = needs_no_others go_on y s h (below y s w stands h i) (kept_of y stands.abstract) (stands.ghosts h).new (goes y s w stands h i).told;
     }

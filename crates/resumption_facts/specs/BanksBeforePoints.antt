@@ -12,7 +12,7 @@ use Rattle.crash_simulation.specs.StorePositions.{last_store}
 use Rattle.source_machine.specs.StepExchanges.{steps_of}
 use Rattle.flow_graph.specs.Actions.{FlowState}
 use Rattle.flow_graph.specs.Lockstep.{Matches}
-use Rattle.log_states.specs.Logs.{HasBank, Record}
+use Rattle.log_states.specs.Logs.{HasBank, HasFrame, Record}
 use Rattle.log_states.specs.Machines.{IsNext}
 use Rattle.recovery_semantics.specs.Attempts.{Writes}
 use Rattle.recovery_semantics.specs.ElementHistories.{IsStable, history_at, number_at}
@@ -35,6 +35,8 @@ pub record FindsBank (y : System) (s : IsSystem y) (events : List Event) (h : â„
   pub stores : effect â‰¡ Stores (point_at (world (translation_of y) events).log h) 8 recorded.point
   -- each slot that the record has is durably what is recorded
   pub bank : HasBank (world (translation_of y) events).log h recorded (world (translation_of y) events).words
+  -- and so is each word of the frame on which it counts
+  pub frame : HasFrame (world (translation_of y) events).log h recorded (world (translation_of y) events).words
   -- that is where the thread stands by all steps that are begun: the locks held there, and its live registers
   pub below : h < thread_count y
   pub state : FlowState

@@ -1,31 +1,40 @@
 -- What each node does, of the parts that are appended for it.
-use Rattle.std.proofs.Common.{◌≡◌, refl, ℕ, ◌+◌, ◌-◌, ◌*◌, ◌≤◌, List, [], length, ap, subst, arith, Bool, true, false}
+use Rattle.std.proofs.Common.{◌≡◌, refl, ℕ, ◌+◌, ◌-◌, ◌*◌, ◌≤◌, List, [], length, ap, subst, sym, arith, Bool, true, false, None}
 use Rattle.ido_base.specs.declared.limits.TheConstants.{MOST_LOCKS}
 use Rattle.ido_ints.specs.declared.kinds.Kind.{Kind}
+use Rattle.ido_ints.specs.declared.kinds.Kind.TheVariants.{UnsignedLong}
+use Rattle.std.proofs.lemmas.Bool.{true≢false}
+use Rattle.std.proofs.lemmas.Option.{slice_get_within}
 use Rattle.c_tree.specs.Exprs as e
 use Rattle.c_tree.specs.Prices.{key_nodes, nodes_of}
 use Rattle.c_tree.specs.Values.{lock_number}
 use Rattle.rv64_isa.specs.declared.instr.Instr.{Instr}
 use Rattle.rv64_isa.specs.declared.object.CodeItem.{CodeItem}
 use Rattle.boundary_code.specs.Boundaries.{Boundary}
-use Rattle.expr_code.specs.EvaluationCode.{Homes, homes_of}
+use Rattle.expr_code.specs.EvaluationCode.{Homes, home_of, homes_of}
+use Rattle.expr_code.specs.declared.home.Home.{Home}
+use Rattle.expr_code.specs.declared.home.Home.TheVariants.{InRegister, InFrame}
 use Rattle.flow_graph.specs.Nodes.{Action, Eval, Store, Test, Lock, Unlock, End}
 use Rattle.node_code.specs.declared.kept.Kept as kept
 use Rattle.node_code.specs.Pieces.{Appends, IsStorePiece, IsLockPiece, IsLockOf, IsUnlockPiece, IsUnlockOf, IsEnd, KeepsFrom, boundary_of, giving_bytes}
 use Rattle.node_code.specs.Pieces.{kept_words}
 use Rattle.node_code.specs.Numbers.{AsksNumber}
 use Rattle.node_code.proofs.Public.{lock_from, unlock_from}
-use Rattle.thread_code.specs.Plans.{Plan, Thread, held_names_before, hold_words, homes, locks_before}
+use Rattle.thread_code.specs.Plans.{IsLogged, Plan, Thread, held_names_before, hold_words, homes, locks_before}
 use Rattle.thread_code.specs.Programs as programs
 use Rattle.rv64_codegen.specs.declared.thread.ThreadPlan as opened
-use Rattle.rv64_codegen.specs.Evaluations.{IsEvaluation, IsTest, target_nodes}
-use Rattle.rv64_codegen.specs.ThreadPieces.{MayEnter, call_words, turned, straight}
+use Rattle.rv64_codegen.specs.Evaluations.{IsEvaluation, IsPlainAssignment, IsTest, target_nodes}
+use Rattle.rv64_codegen.specs.ThreadPieces.{IsAssigning, IsSetting, MayEnter, call_words, in_register, in_section, outside, turned, straight}
 use Rattle.rv64_codegen.specs.links.Numbers.{IsCallCode}
 use Rattle.rv64_codegen.proofs.CallNumbers.{asks_at}
 use Rattle.rv64_codegen.proofs.HeldCodes.{call_words_by}
-use Rattle.rv64_codegen.proofs.NodeCorrectness.{known_of}
+use Rattle.rv64_codegen.proofs.KnownNodes.{known_of, logged_home, not_logged, sets_local}
+use Rattle.rv64_codegen.proofs.LocalRegisters.{word_of}
+use Rattle.rv64_codegen.proofs.LoggedNodes.{logged_else, logged_then}
 use Rattle.rv64_codegen.proofs.Nodes.{Known}
-use Rattle.rv64_codegen.specs.links.Threads.{IsOwn, HasAction, IsKeptFor, GoesToNode, DoesAction, plan_in, thread_of, choices_of}
+use Rattle.rv64_codegen.specs.links.Threads.{IsOwn, HasAction, IsKeptFor, GoesToNode, DoesAction, is_framed, is_logged, is_word, most_doing, opens_at}
+use Rattle.rv64_codegen.specs.links.Threads.{plan_in, thread_of}
+use Rattle.rv64_codegen.specs.links.Threads.{choices_of}
 use Rattle.rv64_codegen.proofs.NodePieces.{two_appended, one_appended, boundary_is, few_live}
 
 pub nodes_lockstep : (t : e.Lvalue) → target_nodes t ≡ programs.target_nodes t
@@ -36,15 +45,94 @@ nodes_lockstep (e.ToElement place variable kind index) = refl
 module _ (x : opened.ThreadPlan) (node : ℕ) where
   -- ---- What it does
 
+  -- what is known of the node
+  known_at : (a : Action) (at : HasAction x node a) →
+      Known (plan_in x).flat (thread_of x).kinds (thread_of x).part.first (thread_of x).part.end (plan_in x).graph.nodes at.is a
+  known_at a at =
+      let p : Plan = plan_in x in
+      let t : Thread = thread_of x in
+      subst (λ (b : Action). Known p.flat t.kinds t.part.first t.part.end p.graph.nodes at.is b) at.action_is
+      (known_of p t at.own.open_is.plan at.own.open_is.thread node at.is at.own.own at.at)
+
+  -- an evaluation, but of a local that stands in the frame
+  assigns : (at : IsOwn x node) (target : e.Lvalue) (value : e.Expr) (does : List CodeItem) → is_framed x.frame.locals.now target ≡ false →
+      IsEvaluation (homes_of x.frame) target value does → IsAssigning (plan_in x) (thread_of x) (choices_of x) node target value does
+  assigns at (e.ToLocal place local kind) value does off is = by (home_of x.frame.locals.now local) refl off
+    where
+      by : (home : Home) → home_of x.frame.locals.now local ≡ home → is_word home ≡ false →
+          IsSetting (plan_in x) (thread_of x) (choices_of x) node place local kind value does
+      by (InRegister register) same h =
+          in_register register same (subst (λ (h : Homes). IsEvaluation h (e.ToLocal place local kind) value does) at.open_is.homes is)
+      by (InFrame word) same h = absurd (true≢false h)
+  assigns at (e.ToVariable place variable kind) value does off is =
+      subst (λ (h : Homes). IsEvaluation h (e.ToVariable place variable kind) value does) at.open_is.homes is
+  assigns at (e.ToElement place variable kind index) value does off is =
+      subst (λ (h : Homes). IsEvaluation h (e.ToElement place variable kind index) value does) at.open_is.homes is
+
+  -- a local that stands in the frame, outside sections
+  assigns_plain : (at : IsOwn x node) (target : e.Lvalue) (value : e.Expr) (does : List CodeItem) → is_framed x.frame.locals.now target ≡ true →
+      (IsLogged (plan_in x) (thread_of x) node → ⊥) → IsPlainAssignment (homes_of x.frame) target value does →
+      IsAssigning (plan_in x) (thread_of x) (choices_of x) node target value does
+  assigns_plain at (e.ToLocal place local kind) value does on none is = by (home_of x.frame.locals.now local) refl on
+    where
+      by : (home : Home) → home_of x.frame.locals.now local ≡ home → is_word home ≡ true →
+          IsSetting (plan_in x) (thread_of x) (choices_of x) node place local kind value does
+      by (InRegister register) same h = absurd (true≢false (sym h))
+      by (InFrame word) same h =
+          outside word same none (subst (λ (h : Homes). IsPlainAssignment h (e.ToLocal place local kind) value does) at.open_is.homes is)
+  assigns_plain at (e.ToVariable place variable kind) value does on none is = absurd (true≢false (sym on))
+  assigns_plain at (e.ToElement place variable kind index) value does on none is = absurd (true≢false (sym on))
+
   pub eval_done : (target : e.Lvalue) (value : e.Placed) (next : ℕ) (old mid new : List CodeItem) → HasAction x node (Eval target value next) →
+      is_logged x node ≡ false → is_framed x.frame.locals.now target ≡ false →
       Appends old mid (IsEvaluation (homes_of x.frame) target value.expr) → Appends mid new (GoesToNode x node next) →
       Appends old new (DoesAction x node (Eval target value next))
-  eval_done target value next old mid new at a g =
-      let o = at.own.open_is in
-      two_appended x o node next old mid new (IsEvaluation (homes_of x.frame) target value.expr) (Eval target value next)
+  eval_done target value next old mid new at off plain a g =
+      two_appended x at.own.open_is node next old mid new (IsEvaluation (homes_of x.frame) target value.expr) (Eval target value next)
       (16 * (target_nodes target + nodes_of value.expr) + 17) a g
-      (λ does goes is fragment. (subst (λ (h : Homes). IsEvaluation h target value.expr does) o.homes is, fragment)) (λ does is. is.few)
-      (omega (arith, nodes_lockstep target))
+      (λ does goes is fragment. (assigns at.own target value.expr does plain is, fragment)) (λ does is. is.few)
+      (subst (λ (b : Bool). 16 * (target_nodes target + nodes_of value.expr) + 17 + 1 ≤ most_doing b (plan_in x) (thread_of x) (Eval target value next)) (sym
+      off)
+      (omega (arith, nodes_lockstep target)))
+
+  pub plain_done : (target : e.Lvalue) (value : e.Placed) (next : ℕ) (old mid new : List CodeItem) → HasAction x node (Eval target value next) →
+      is_logged x node ≡ false → is_framed x.frame.locals.now target ≡ true →
+      Appends old mid (IsPlainAssignment (homes_of x.frame) target value.expr) → Appends mid new (GoesToNode x node next) →
+      Appends old new (DoesAction x node (Eval target value next))
+  plain_done target value next old mid new at off framed a g =
+      let o = at.own.open_is in
+      let none = logged_else x o node at.own.own at.is at.at off in
+      two_appended x o node next old mid new (IsPlainAssignment (homes_of x.frame) target value.expr) (Eval target value next)
+      (16 * (target_nodes target + nodes_of value.expr) + 18) a g
+      (λ does goes is fragment. (assigns_plain at.own target value.expr does framed none is, fragment)) (λ does is. is.few)
+      (subst (λ (b : Bool). 16 * (target_nodes target + nodes_of value.expr) + 18 + 1 ≤ most_doing b (plan_in x) (thread_of x) (Eval target value next)) (sym
+      off)
+      (omega (arith, nodes_lockstep target)))
+
+  logged_assigns : (target : e.Lvalue) (value : e.Placed) (next : ℕ) (at : HasAction x node (Eval target value next)) →
+      IsLogged (plan_in x) (thread_of x) node → (does : List CodeItem) → IsStorePiece UnsignedLong true does →
+      IsAssigning (plan_in x) (thread_of x) (choices_of x) node target value.expr does
+  logged_assigns (e.ToLocal place local kind) value next at it does is =
+      let o = at.own.open_is in
+      let p : Plan = plan_in x in
+      let t : Thread = thread_of x in
+      let known = known_at (Eval (e.ToLocal place local kind) value next) at in
+      let home = logged_home p t o.plan o.thread node at.is at.at it local (slice_get_within t.kinds local kind known.target_is.0) in
+      in_section (word_of p t o.plan o.thread local) home it is
+  logged_assigns (e.ToVariable place variable kind) value next at it does is =
+      absurd (not_logged (plan_in x) (thread_of x) at.own.open_is.plan at.own.open_is.thread node at.is at.at (ap sets_local at.action_is) it)
+  logged_assigns (e.ToElement place variable kind index) value next at it does is =
+      absurd (not_logged (plan_in x) (thread_of x) at.own.open_is.plan at.own.open_is.thread node at.is at.at (ap sets_local at.action_is) it)
+
+  pub logged_done : (target : e.Lvalue) (value : e.Placed) (next : ℕ) (old mid new : List CodeItem) → HasAction x node (Eval target value next) →
+      is_logged x node ≡ true → Appends old mid (IsStorePiece UnsignedLong true) → Appends mid new (GoesToNode x node next) →
+      Appends old new (DoesAction x node (Eval target value next))
+  logged_done target value next old mid new at on a g =
+      let o = at.own.open_is in
+      let it = logged_then x o node at.own.own at.is at.at on in
+      two_appended x o node next old mid new (IsStorePiece UnsignedLong true) (Eval target value next) 2 a g
+      (λ does goes is fragment. (logged_assigns target value next at it does is, fragment)) (λ does is. is.few)
+      (subst (λ (b : Bool). 2 + 1 ≤ most_doing b (plan_in x) (thread_of x) (Eval target value next)) (sym on) (omega arith))
 
   pub turned_done : (condition : e.Placed) (fails label : ℕ) (old new : List CodeItem) → HasAction x node (Test condition (node + 1) fails) →
       label ≡ fails - x.part.first → Appends old new (IsTest (homes_of x.frame) condition.expr true label) →
@@ -73,21 +161,13 @@ module _ (x : opened.ThreadPlan) (node : ℕ) where
       two_appended x at.own.open_is node next old mid new (IsStorePiece kind cleans) (Store variable kind next) 2 a g
       (λ does goes is fragment. (subst (λ (b : Bool). IsStorePiece kind b does) e is, fragment)) (λ does is. is.few) (omega arith)
 
-  -- what is known of a node that takes a lock or gives one back
-  known_at : (a : Action) (lock : e.LockName) (next : ℕ) (at : HasAction x node a) →
-      Known (plan_in x).flat (thread_of x).kinds (thread_of x).part.first (thread_of x).part.end (plan_in x).graph.nodes at.is a
-  known_at a lock next at =
-      let p : Plan = plan_in x in
-      let t : Thread = thread_of x in
-      subst (λ (b : Action). Known p.flat t.kinds t.part.first t.part.end p.graph.nodes at.is b) at.action_is
-      (known_of p t at.own.open_is.plan at.own.open_is.thread node at.is at.own.own at.at)
-
   few_locks : length (plan_in x).flat.mutexes ≤ MOST_LOCKS → length (plan_in x).flat.mutexes ≤ 1024
   few_locks few = omega (arith, few)
 
   pub lock_done : (lock : e.LockName) (next : ℕ) (k : kept.Kept) (numbering : List Instr) (old mid new : List CodeItem) →
-      IsCallCode (homes_of x.frame) lock numbering → HasAction x node (Lock lock next) → IsOwn x next → IsKeptFor x next k →
-      Appends old mid (IsLockOf k numbering) → Appends mid new (GoesToNode x node next) →
+      IsCallCode (homes_of x.frame) lock numbering → HasAction x node (Lock lock next) → IsOwn x next →
+      IsKeptFor x next ((choices_of x).live next) (record { bytes = None; opens = opens_at x node }) k → Appends old mid (IsLockOf k numbering) →
+      Appends mid new (GoesToNode x node next) →
       Appends old new (DoesAction x node (Lock lock next))
   lock_done lock next k numbering old mid new made at own is_kept a g =
       let o = at.own.open_is in
@@ -95,7 +175,7 @@ module _ (x : opened.ThreadPlan) (node : ℕ) where
       let t : Thread = thread_of x in
       let code : IsCallCode (homes p t) lock numbering = subst (λ (h : Homes). IsCallCode h lock numbering) o.homes made in
       let words = (call_words_by (homes p t) lock.mutex lock.key numbering code).1 in
-      let known = known_at (Lock lock next) lock next at in
+      let known = known_at (Lock lock next) at in
       let asks = asks_at p t o.plan o.thread (few_locks o.plan.formed.shared.mutexes) node at.is at.at lock next known in
       let names : List e.LockName = held_names_before p t next in
       let most : ℕ = call_words p.log names lock in
@@ -105,10 +185,11 @@ module _ (x : opened.ThreadPlan) (node : ℕ) where
             let locks : List ℕ = locks_before p t locals next in
             let number : ℕ = lock_number locals lock in
             subst (λ (b : Boundary). IsLockPiece b (MayEnter p t locals node) (MayEnter p t locals next) most number does)
-            (boundary_is x o locals next k 0 is_kept)
-            (lock_from (boundary_of k locks 0) (λ y. AsksNumber y number numbering) (MayEnter p t locals node) (KeepsFrom k locks) (MayEnter p t locals next)
+            (boundary_is x o ((choices_of x).live next) (record { bytes = None; opens = opens_at x node }) locals next k 0 is_kept)
+            (lock_from (boundary_of k locks 0) (λ around y. AsksNumber around y number numbering) (MayEnter p t locals node) (KeepsFrom k locks) (MayEnter p t
+            locals next)
             (kept_words k + length numbering) most number does (let few = is_kept.few in omega (arith, few, words))
-            (λ y may. asks locals numbering code y may) (is_kept.leave locals) (is locks number (is_kept.locks_are locals))),
+            (λ around y may. asks locals numbering code around y may) (is_kept.leave locals) (is locks number (is_kept.locks_are locals))),
         fragment,
       ))
       (λ does is.
@@ -117,8 +198,9 @@ module _ (x : opened.ThreadPlan) (node : ℕ) where
       (omega arith)
 
   pub unlock_done : (lock : e.LockName) (next : ℕ) (k : kept.Kept) (numbering : List Instr) (old mid new : List CodeItem) →
-      IsCallCode (homes_of x.frame) lock numbering → HasAction x node (Unlock lock next) → IsOwn x next → IsKeptFor x next k →
-      Appends old mid (IsUnlockOf k numbering) → Appends mid new (GoesToNode x node next) →
+      IsCallCode (homes_of x.frame) lock numbering → HasAction x node (Unlock lock next) → IsOwn x next →
+      IsKeptFor x next ((choices_of x).live next) (record { bytes = None; opens = false }) k → Appends old mid (IsUnlockOf k numbering) →
+      Appends mid new (GoesToNode x node next) →
       Appends old new (DoesAction x node (Unlock lock next))
   unlock_done lock next k numbering old mid new made at own is_kept a g =
       let o = at.own.open_is in
@@ -127,7 +209,7 @@ module _ (x : opened.ThreadPlan) (node : ℕ) where
       let bytes : ℕ = giving_bytes numbering in
       let code : IsCallCode (homes p t) lock numbering = subst (λ (h : Homes). IsCallCode h lock numbering) o.homes made in
       let words = (call_words_by (homes p t) lock.mutex lock.key numbering code).1 in
-      let known = known_at (Unlock lock next) lock next at in
+      let known = known_at (Unlock lock next) at in
       let asks = asks_at p t o.plan o.thread (few_locks o.plan.formed.shared.mutexes) node at.is at.at lock next known in
       let names : List e.LockName = held_names_before p t next in
       let most : ℕ = call_words p.log names lock in
@@ -139,10 +221,10 @@ module _ (x : opened.ThreadPlan) (node : ℕ) where
               let locks : List ℕ = locks_before p t locals next in
               let number : ℕ = lock_number locals lock in
               subst (λ (b : Boundary). IsUnlockPiece b (MayEnter p t locals node) (MayEnter p t locals next) most number does)
-              (boundary_is x o locals next k bytes is_kept)
-              (unlock_from (boundary_of k locks bytes) (λ y. AsksNumber y number numbering) (MayEnter p t locals node) (KeepsFrom k locks)
+              (boundary_is x o ((choices_of x).live next) (record { bytes = None; opens = false }) locals next k bytes is_kept)
+              (unlock_from (boundary_of k locks bytes) (λ around y. AsksNumber around y number numbering) (MayEnter p t locals node) (KeepsFrom k locks)
               (MayEnter p t locals next) (kept_words k + length numbering) most number does (let few = is_kept.few in omega (arith, few, words))
-              (λ y may. asks locals numbering code y may) (is_kept.leave locals) (is locks number (is_kept.locks_are locals))),
+              (λ around y may. asks locals numbering code around y may) (is_kept.leave locals) (is locks number (is_kept.locks_are locals))),
         ),
         fragment,
       ))

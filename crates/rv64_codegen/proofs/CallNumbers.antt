@@ -36,6 +36,7 @@ use Rattle.rv64_codegen.proofs.NameNumbers.{key_known}
 use Rattle.rv64_codegen.proofs.NodeCorrectness.{local_other, local_plain}
 use Rattle.rv64_codegen.proofs.Nodes.{CallKnown}
 use Rattle.rv64_codegen.proofs.ReadLocals.{live_is_enough}
+use Rattle.rv64_codegen.proofs.AnsweredHomes.{answered_home}
 
 last_row : (y : List ℕ) (first element pc : ℕ) → read y 5 ≡ element → element + first < 2048 →
     row (OpImmediate Addi 10 5 first) y pc ≡ Continues (slice_set y 10 (element + first)) (next pc)
@@ -63,7 +64,7 @@ module _ (h : Homes) (s : Source) (key : e.Expr) (code : List Instr) (first elem
   abbrev written : ℕ → Bool
   written n = n == 10 || is_temporary n
 
-  module _ (around : Environment) (x y : List ℕ) (at : ℕ) (locals : HoldsLocals h s x key) (same : IsSame x y)
+  module _ (around : Environment) (x y : List ℕ) (at : ℕ) (locals : HoldsLocals h s around.loads x key) (same : IsSame x y)
       (there : HasCodeThere around (code ++ last) (config y at)) where
     abbrev begin : LocalConfig
     begin = config y at
@@ -71,8 +72,8 @@ module _ (h : Homes) (s : Source) (key : e.Expr) (code : List Instr) (first elem
     there_1 : HasCodeThere around code begin
     there_1 = at_left around code last begin there
 
-    locals_there : HoldsLocals h s y key
-    locals_there = locals_kept h s x y key suits formed (λ n l. same n (local_plain n l) (local_other n 3 refl l)) locals
+    locals_there : HoldsLocals h s around.loads y key
+    locals_there = locals_kept h s around.loads x y key suits formed (λ n l. same n (local_plain n l) (local_other n 3 refl l)) locals
 
     valued : EvaluationEnds around code written (λ z. read z 5 ≡ element) begin
     valued =
@@ -113,34 +114,36 @@ module _ (h : Homes) (s : Source) (key : e.Expr) (code : List Instr) (first elem
       others = λ r plain other. numbered.unchanged r (ap (λ (b : Bool). b || is_temporary r) (ne_eqb r 10 other) ∙ plain);
     }
 
-  pub key_asks : (x : List ℕ) → HoldsLocals h s x key → AsksNumber x (element + first) (code ++ last)
-  key_asks x locals = record {
-    asks = λ around y at are same stands room. asked around x y at locals same (record { registers = are; stands = stands; room = room });
+  pub key_asks : (around : Environment) (x : List ℕ) → HoldsLocals h s around.loads x key → AsksNumber around x (element + first) (code ++ last)
+  key_asks around x locals = record {
+    asks = λ y at are same stands room. asked around x y at locals same (record { registers = are; stands = stands; room = room });
   }
 
 module _ (p : Plan) (t : Thread) (plan : IsPlan p) (of : IsThread p t) (few : length p.flat.mutexes ≤ 1024) where
-  call_by : (seen : Seen) (x : List ℕ) (mutex : ℕ) (key : Option e.Placed) (code : List Instr) →
+  call_by : (seen : Seen) (around : Environment) (x : List ℕ) (mutex : ℕ) (key : Option e.Placed) (code : List Instr) →
       IsFlatLockName p.flat.mutexes t.kinds (record { mutex = mutex; key = key }) →
-      HoldsEach (homes p t) (source_of p t seen) x (key_locals (record { mutex = mutex; key = key })) → IsCallBy (homes p t) mutex key code →
-      AsksNumber x (lock_number seen.locals (record { mutex = mutex; key = key })) code
-  call_by seen x mutex None code formed held is =
+      HoldsEach (homes p t) (source_of p t seen) around.loads x (key_locals (record { mutex = mutex; key = key })) → IsCallBy (homes p t) mutex key code →
+      AsksNumber around x (lock_number seen.locals (record { mutex = mutex; key = key })) code
+  call_by seen around x mutex None code formed held is =
       let low : mutex < length p.flat.mutexes = slice_get_within p.flat.mutexes mutex formed.it formed.found in
-      subst (λ (c : List Instr). AsksNumber x mutex c) (sym is) (call_asks x mutex (omega (arith, low, few)))
-  call_by seen x mutex (Some key) code formed held is =
-      let known = key_known p t plan of seen x few mutex key formed held in
-      subst (λ (n : ℕ). AsksNumber x n code) known.same
-      (subst (λ (c : List Instr). AsksNumber x (known.element + mutex) c) (sym is.is)
+      subst (λ (c : List Instr). AsksNumber around x mutex c) (sym is) (call_asks around x mutex (omega (arith, low, few)))
+  call_by seen around x mutex (Some key) code formed held is =
+      let known = key_known p t plan of seen around x few mutex key formed held in
+      subst (λ (n : ℕ). AsksNumber around x n code) known.same
+      (subst (λ (c : List Instr). AsksNumber around x (known.element + mutex) c) (sym is.is)
       (key_asks (homes p t) (source_of p t seen) key.expr is.of_value mutex known.element is.value.is_value (suits p t plan of seen) known.expr known.fits
-      known.unloaded known.number known.small x known.locals))
+      known.unloaded known.number known.small around x known.locals))
 
   -- at a node that takes a lock or gives one back its locals are live
   pub asks_at : (node : ℕ) (is : Node) → NodeAt p.graph node is → (lock : e.LockName) (next : ℕ) →
       CallKnown p.flat t.kinds t.part.first t.part.end p.graph.nodes lock next is → (locals : List ℤ) (code : List Instr) → IsCallCode (homes p t) lock code →
-      (x : List ℕ) → MayEnter p t locals node x → AsksNumber x (lock_number locals lock) code
-  asks_at node is at lock next known locals code made x may =
+      (around : Environment) (x : List ℕ) → MayEnter p t locals node around x → AsksNumber around x (lock_number locals lock) code
+  asks_at node is at lock next known locals code made around x may =
       let h : Homes = homes p t in
       let s : Source = source_of p t may.seen in
-      let all : HoldsEach h s x is.uses =
-      live_is_enough p.graph node is h s x at (λ local k alive there. may.enters.locals local k there alive) in
-      subst (λ (ls : List ℤ). AsksNumber x (lock_number ls lock) code) may.locals_are
-      (call_by may.seen x lock.mutex lock.key code known.name (subst (λ (us : List ℕ). HoldsEach h s x us) known.uses all) made)
+      let all : HoldsEach h s around.loads x is.uses =
+      live_is_enough p.graph node is h s around.loads x at (λ local k alive there. answered_home p t may.seen may.view around.loads node local k x may.frame
+      alive
+      (may.enters.locals local k there alive)) in
+      subst (λ (ls : List ℤ). AsksNumber around x (lock_number ls lock) code) may.locals_are
+      (call_by may.seen around x lock.mutex lock.key code known.name (subst (λ (us : List ℕ). HoldsEach h s around.loads x us) known.uses all) made)

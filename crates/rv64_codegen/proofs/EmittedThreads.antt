@@ -26,8 +26,8 @@ use Rattle.node_code.specs.JoinedPieces.{joined, AreClosed}
 use Rattle.thread_code.specs.Plans.{Plan, IsPlan, Thread, IsThread, IsNodeOf, held_names_before, locks_before, hold_words}
 use Rattle.thread_code.proofs.Public.{named_some, numbers_some}
 use Rattle.thread_code.specs.NodeCodeEffects.{Places}
-use Rattle.thread_code.specs.Programs.{action_nodes, mark_of, IsOn, IsNodeCode, IsResumeAddress, at_chosen, past_lock, past_unlock, IsThreadCode, names_kept}
-use Rattle.rv64_codegen.specs.ThreadPieces.{Choices, AreChoices, IsNodePiece, ArePieces, IsCodeOfThread, EmittedIsCode}
+use Rattle.thread_code.specs.Programs.{action_nodes, mark_of, IsOn, IsNodeCode, IsResumeAddress, at_chosen, past_lock, past_unlock, names_kept}
+use Rattle.rv64_codegen.specs.ThreadPieces.{Choices, AreChoices, IsNodePiece, ArePieces, IsCodeOfThread, IsSpacedCode, EmittedIsCode}
 use Rattle.rv64_codegen.proofs.JoinedAddresses.{AreOnes, joined_ones, IsIn, in_one, in_joined, Ascends, joined_ascend, ascending}
 use Rattle.rv64_codegen.proofs.Addresses.{contains_one, lies_on}
 use Rattle.rv64_codegen.proofs.PieceSites.{IsLinkedIn, IsSited, Spots, AgreesAt}
@@ -155,7 +155,7 @@ module _ (p : Plan) (t : Thread) (linked : LinkedPieces p t) where
 
   abbrev spots_by : (i : ℕ) → (i < length pieces) ⊎ (length pieces ≤ i) → Spots
   spots_by i (inl below) = spots_at (here i below)
-  spots_by i (inr past) = record { core = 0; call = 0; after = 0 }
+  spots_by i (inr past) = record { core = 0; call = 0; after = 0; store = 0 }
 
   spots : ℕ → Spots
   spots node = spots_by (node - t.part.first) (cases_lt (node - t.part.first) (length pieces))
@@ -169,6 +169,8 @@ module _ (p : Plan) (t : Thread) (linked : LinkedPieces p t) where
     call = λ node. (spots node).call;
     after = λ node. (spots node).after;
     live = c.live;
+    kept = c.kept;
+    store = λ node. (spots node).store;
     cleans = c.cleans;
   }
 
@@ -200,7 +202,7 @@ module _ (p : Plan) (t : Thread) (linked : LinkedPieces p t) where
   -- a node of the thread, at whose places all is as said
   record Node_at (i : ℕ) : Type 0 where
     a : Here i
-    agrees : AgreesAt places program c.live c.cleans (t.part.first + i) (spots_at a)
+    agrees : AgreesAt places program c.live c.kept c.cleans (t.part.first + i) (spots_at a)
 
   node_at : (i : ℕ) → i < length pieces → Node_at i
   node_at i below =
@@ -212,8 +214,10 @@ module _ (p : Plan) (t : Thread) (linked : LinkedPieces p t) where
           core = ap (λ (z : Spots). z.core) s.1;
           call = ap (λ (z : Spots). z.call) s.1;
           after = ap (λ (z : Spots). z.after) s.1;
+          store = ap (λ (z : Spots). z.store) s.1;
           words = words_are i s.0;
-          live = λ other. refl;
+          live_are = λ other. refl;
+          kept_are = λ other. refl;
           cleans = refl;
         };
       }
@@ -431,25 +435,37 @@ module _ (p : Plan) (t : Thread) (linked : LinkedPieces p t) where
 
   -- ---- Together
 
-  pub is_thread_code : IsThreadCode p t program
-  is_thread_code = record {
-    places = places;
-    of_program = refl;
-    begins = placed.entry_first t program pieces closed n;
-    ends = placed.entry_end t program pieces closed n are.count;
-    follows = follows;
-    code = code;
-    kept = choices.kept;
-    marks = marks_are;
-    marks_count = marks_count;
-    resumes = λ a. (resumed a, there a);
-    ascending = ascend;
+  spaced : (node : ℕ) → IsNodeOf t node → IsChosen p.graph p.boundaries node → places.entry node < places.core node
+  spaced node of chosen =
+      let k = numbered node of in
+      subst (λ (j : ℕ). IsChosen p.graph p.boundaries j → places.entry j < places.core j) k.is (grows k.number (node_at k.number k.below)) chosen
+    where
+      grows : (i : ℕ) → Node_at i → IsChosen p.graph p.boundaries (t.part.first + i) → places.entry (t.part.first + i) < places.core (t.part.first + i)
+      grows i m = own.chosen_grows places (placed_node m.a) m.agrees
+
+  pub is_spaced_code : IsSpacedCode p t program
+  is_spaced_code = record {
+    is = record {
+      places = places;
+      of_program = refl;
+      begins = placed.entry_first t program pieces closed n;
+      ends = placed.entry_end t program pieces closed n are.count;
+      follows = follows;
+      code = code;
+      live = choices.live_are;
+      kept = choices.kept_are;
+      marks = marks_are;
+      marks_count = marks_count;
+      resumes = λ a. (resumed a, there a);
+      ascending = ascend;
+    };
+    spaced = spaced;
   }
 
 pub emitted_is_code : EmittedIsCode
 emitted_is_code p plan t items thread e =
     subst (λ (is : List CodeItem). IsCodeOfThread p t is) (sym e.joined_are)
-    (λ program linked room. is_thread_code p t (record {
+    (λ program linked room. is_spaced_code p t (record {
       plan = plan;
       thread = thread;
       c = e.choices;

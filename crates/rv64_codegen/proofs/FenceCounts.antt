@@ -10,7 +10,11 @@ use Rattle.flow_graph.specs.IdempotentCuts.{IsChosen, locks, unlocks}
 use Rattle.node_code.proofs.Public.{fences_append}
 use Rattle.thread_code.specs.Plans.{Plan, Thread, IsPlan}
 use Rattle.thread_code.specs.Programs.{boundary_count}
-use Rattle.rv64_codegen.specs.ThreadPieces.{Choices, GoesTo, IsChoosing, turned, straight, IsDoing}
+use Rattle.ido_base.specs.declared.place.Place.{Place}
+use Rattle.ido_ints.specs.declared.kinds.Kind.{Kind}
+use Rattle.c_tree.specs.Exprs as e
+use Rattle.rv64_codegen.specs.ThreadPieces.{Choices, GoesTo, IsAssigning, IsChoosing, turned, straight, IsDoing, IsSetting, in_register, in_section, outside}
+use Rattle.rv64_codegen.proofs.GuardParts.{guard_fences}
 use Rattle.rv64_codegen.proofs.PieceParts.{PlacedNode, chosen_or_not, same_or_other}
 
 -- ---- Flags
@@ -72,7 +76,7 @@ module _ {p : Plan} {t : Thread} {c : Choices} {entry : ℕ → ℕ} (plan : IsP
     where
       by : IsChosen p.graph p.boundaries node ⊎ (IsChosen p.graph p.boundaries node → ⊥) → fences_in before ≡ 2 * one_if has_before
       by (inl chosen) =
-          let two : fences_in before ≡ 2 = (guarded.chosen chosen []).fences in
+          let two : fences_in before ≡ 2 = guard_fences p t c node is.action before (guarded.chosen chosen) in
           let on : one_if has_before ≡ 1 = ap one_if (flag_on p.boundaries.before node chosen.stands) in
           omega (arith, two, on)
       by (inr plain) =
@@ -105,25 +109,36 @@ module _ {p : Plan} {t : Thread} {c : Choices} {entry : ℕ → ℕ} (plan : IsP
       let none = after_none no_l in
       total (2 * one_if has_before) 0 (2 * boundary_count p.boundaries node) (before_fences no_u) d g (omega (arith, none))
 
+  setting_none : (place : Place) (local : ℕ) (kind : Kind) (value : e.Expr) → IsSetting p t c node place local kind value does → fences_in does ≡ 0
+  setting_none place local kind value (in_register register home d) = d.fences
+  setting_none place local kind value (in_section word home it_is d) = d.fences
+  setting_none place local kind value (outside word home none d) = d.fences
+
+  assigning_none : (target : e.Lvalue) (value : e.Expr) → IsAssigning p t c node target value does → fences_in does ≡ 0
+  assigning_none (e.ToLocal place local kind) value d = setting_none place local kind value d
+  assigning_none (e.ToVariable place variable kind) value d = d.fences
+  assigning_none (e.ToElement place variable kind index) value d = d.fences
+
   fences_by : (a : Action) → is.action ≡ a → IsDoing p t c node a does goes → fences_in (before ++ (does ++ goes)) ≡ 2 * boundary_count p.boundaries node
-  fences_by (Eval target value next) e d = plain_fences (ap is_lock e) (ap is_unlock e) d.0.fences (goes_none next d.1)
-  fences_by (Store variable kind next) e d = plain_fences (ap is_lock e) (ap is_unlock e) d.0.fences (goes_none next d.1)
-  fences_by (Test condition holds fails) e d = by d
+  fences_by (Eval target value next) same d =
+      plain_fences (ap is_lock same) (ap is_unlock same) (assigning_none target value.expr d.0) (goes_none next d.1)
+  fences_by (Store variable kind next) same d = plain_fences (ap is_lock same) (ap is_unlock same) d.0.fences (goes_none next d.1)
+  fences_by (Test condition holds fails) same d = by d
     where
       by : IsChoosing p t c node condition holds fails does goes → fences_in (before ++ (does ++ goes)) ≡ 2 * boundary_count p.boundaries node
-      by (turned same test none) = plain_fences (ap is_lock e) (ap is_unlock e) test.fences (ap fences_in none)
-      by (straight test goes_to) = plain_fences (ap is_lock e) (ap is_unlock e) test.fences (goes_none fails goes_to)
-  fences_by (Lock lock next) e d =
+      by (turned follows test none) = plain_fences (ap is_lock same) (ap is_unlock same) test.fences (ap fences_in none)
+      by (straight test goes_to) = plain_fences (ap is_lock same) (ap is_unlock same) test.fences (goes_none fails goes_to)
+  fences_by (Lock lock next) same d =
       let on : one_if has_after ≡ 1 =
-      ap one_if (flag_on p.boundaries.after_lock node (plan.cuts.past_locks node (locks is lock next at e)).stands) in
-      total (2 * one_if has_before) 2 (2 * boundary_count p.boundaries node) (before_fences (ap is_unlock e)) (d.0 []).fences (goes_none next d.1)
+      ap one_if (flag_on p.boundaries.after_lock node (plan.cuts.past_locks node (locks is lock next at same)).stands) in
+      total (2 * one_if has_before) 2 (2 * boundary_count p.boundaries node) (before_fences (ap is_unlock same)) (d.0 []).fences (goes_none next d.1)
       (omega (arith, on))
-  fences_by (Unlock lock next) e d =
-      let none : fences_in before ≡ 0 = ap fences_in (guarded.plain (λ chosen. chosen.free (unlocks is lock next at e))) in
-      let on : one_if has_before ≡ 1 = ap one_if (flag_on p.boundaries.before node (plan.cuts.before_unlocks node (unlocks is lock next at e))) in
-      let off = after_none (ap is_lock e) in
+  fences_by (Unlock lock next) same d =
+      let none : fences_in before ≡ 0 = ap fences_in (guarded.plain (λ chosen. chosen.free (unlocks is lock next at same))) in
+      let on : one_if has_before ≡ 1 = ap one_if (flag_on p.boundaries.before node (plan.cuts.before_unlocks node (unlocks is lock next at same))) in
+      let off = after_none (ap is_lock same) in
       total 0 2 (2 * boundary_count p.boundaries node) none (d.0.1 []).fences (goes_none next d.1) (omega (arith, on, off))
-  fences_by End e d = plain_fences (ap is_lock e) (ap is_unlock e) d.0.fences (ap fences_in d.1)
+  fences_by End same d = plain_fences (ap is_lock same) (ap is_unlock same) d.0.fences (ap fences_in d.1)
 
   pub piece_fences : fences_in (before ++ (does ++ goes)) ≡ 2 * boundary_count p.boundaries node
   piece_fences = fences_by is.action refl doing

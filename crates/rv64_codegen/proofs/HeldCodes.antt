@@ -21,8 +21,11 @@ use Rattle.rv64_isa.specs.declared.instr.Instr.TheVariants.{Op, OpImmediate}
 use Rattle.rv64_isa.specs.declared.instr.ImmediateOperation.TheVariants.{Addi}
 use Rattle.rv64_isa.specs.declared.instr.Operation.TheVariants.{Add}
 use Rattle.operator_code.specs.StraightLineCode.{IsConstant}
-use Rattle.boundary_code.specs.Boundaries.{fixed_words, listed_locks, lists_of, number_words, words_beside, words_for}
-use Rattle.log_schemes.specs.Schemes.{HasRoom, HaveRoom, keeping_of, size_of}
+use Rattle.log_schemes.specs.declared.locals.Locals.{Locals}
+use Rattle.log_schemes.specs.declared.locals.Locals.TheVariants.{Registers, Frame}
+use Rattle.code_runs.specs.ComputingRuns.{Environment}
+use Rattle.boundary_code.specs.Boundaries.{fixed_words, frame_words, listed_locks, lists_of, number_words, words_beside, words_for}
+use Rattle.log_schemes.specs.Schemes.{HasRoom, HaveRoom, keeping_of, locals_of, size_of}
 use Rattle.expr_code.specs.EvaluationCode.{Homes, impure_among}
 use Rattle.expr_code.proofs.Public.{among_append, constant_none}
 use Rattle.node_code.specs.BoundaryCode.{IsQuiet}
@@ -164,21 +167,21 @@ module _ (p : Plan) (t : Thread) (plan : IsPlan p) (th : IsThread p t) (formed :
       let by : AreCodesAs Listed p.log h t.number held codes = subst (λ (k : Keeping). AreCodesAs k p.log h t.number held codes) lists are in
       numbers_many locals ∙ sym (as_many h by.0 held codes by.3)
 
-  leave_as : (k : Keeping) → AreCodesAs k p.log h t.number held codes → (locals : List ℤ) (x : List ℕ) → MayEnter p t locals node x →
-      LeaveNumbers p.log t.number x (listed_locks k (locks_before p t locals node)) codes
-  leave_as Masked are locals x may = subst (λ (cs : List (List Instr)). LeaveNumbers p.log t.number x [] cs) (sym are) tt
-  leave_as Listed are locals x may =
+  leave_as : (k : Keeping) → AreCodesAs k p.log h t.number held codes → (locals : List ℤ) (around : Environment) (x : List ℕ) →
+      MayEnter p t locals node around x → LeaveNumbers around p.log t.number x (listed_locks k (locks_before p t locals node)) codes
+  leave_as Masked are locals around x may = subst (λ (cs : List (List Instr)). LeaveNumbers around p.log t.number x [] cs) (sym are) tt
+  leave_as Listed are locals around x may =
       let low = thread_below p plan t th in
       let reach : (bank : ℕ) → bank < 2 → log_of p.log t.number + bank_bytes p.log * bank < 2 ^ 32 = λ bank below. base_small p.log t.number bank low below in
       let few : length p.flat.mutexes ≤ 1024 = (let m = plan.formed.shared.mutexes in omega (arith, m)) in
-      let left : LeaveNumbers p.log t.number x (locks_before p t may.seen.locals node) codes =
-      held_leave p t plan th may.seen x few reach are.0 are.1 node may.side codes own may.enters
+      let left : LeaveNumbers around p.log t.number x (locks_before p t may.seen.locals node) codes =
+      held_leave p t plan th may.seen around x few reach are.0 are.1 node may.view codes own may.enters may.frame
       (λ k y there holds_it. all_get (IsFlatLockName p.flat.mutexes t.kinds) (names_in p t) formed k y there) are.3 in
-      subst (λ (ls : List ℤ). LeaveNumbers p.log t.number x (locks_before p t ls node) codes) may.locals_are left
+      subst (λ (ls : List ℤ). LeaveNumbers around p.log t.number x (locks_before p t ls node) codes) may.locals_are left
 
-  pub leave_them : AreNumberCodes p.log h t.number held codes → (locals : List ℤ) (x : List ℕ) → MayEnter p t locals node x →
-      LeaveLocks p.log t.number (locks_before p t locals node) codes x
-  leave_them are locals x may = leave_as (keeping_of p.log) are locals x may
+  pub leave_them : AreNumberCodes p.log h t.number held codes → (locals : List ℤ) (around : Environment) (x : List ℕ) →
+      MayEnter p t locals node around x → LeaveLocks p.log t.number (locks_before p t locals node) codes around x
+  leave_them are locals around x may = leave_as (keeping_of p.log) are locals around x may
 
   few_as : (k : Keeping) → AreCodesAs k p.log h t.number held codes → HasRoom k (locks_before p t [] node) → length codes ≤ 16
   few_as Masked are room = let none : length codes ≡ 0 = ap (λ (cs : List (List Instr)). length cs) are in omega (arith, none)
@@ -187,11 +190,15 @@ module _ (p : Plan) (t : Thread) (plan : IsPlan p) (th : IsThread p t) (formed :
   pub few_codes : AreNumberCodes p.log h t.number held codes → HaveRoom p.log (locks_before p t [] node) → length codes ≤ 16
   few_codes are room = few_as (keeping_of p.log) are room
 
+  few_frame : (l : Locals) → frame_words l ≤ 12
+  few_frame Registers = omega arith
+  few_frame Frame = omega arith
+
   words_as : (k : Keeping) → AreCodesAs k p.log h t.number held codes → fixed_words p.log + words_for k codes ≤ 72 + words_held k held
-  words_as Masked are = let few = (size_holds (size_of p.log)).few_in_bank in omega (arith, few)
+  words_as Masked are = let few = (size_holds (size_of p.log)).few_in_bank in omega (arith, few, few_frame (locals_of p.log))
   words_as Listed are =
       let few = (size_holds (size_of p.log)).few_in_bank in
-      let words = within_prices h are.0 are.2 held codes are.3 in omega (arith, words, few)
+      let words = within_prices h are.0 are.2 held codes are.3 in omega (arith, words, few, few_frame (locals_of p.log))
 
   pub few_words : AreNumberCodes p.log h t.number held codes → words_beside p.log codes ≤ boundary_words p.log held
   few_words are = words_as (keeping_of p.log) are

@@ -183,13 +183,17 @@ module _ (p : Plan) (t : Thread) where
 
   cost_assign : (table : Table) (place : Place) (target : e.Lvalue) (value : e.Placed) (h : Held) (first next : ℕ) →
       AreBefore (sets_in names h (f.Assign place target value)) first → OfOne table h (f.Assign place target value) first next
-  cost_assign table place (e.ToLocal spot other kind) value h first next b = (b.0, omega arith)
+  cost_assign table place (e.ToLocal spot other kind) value h first next b =
+      let here : held_price names (set_before p t first) ≡ held_price names h = ap (held_price names) b.0 in
+      (b.0, omega (arith, here))
   cost_assign table place (e.ToVariable spot variable kind) value h first next b =
+      let here : held_price names (set_before p t first) ≡ held_price names h = ap (held_price names) b.0 in
       let store : held_price names (set_before p t (suc first)) ≡ held_price names h = ap (held_price names) b.1.0 in
-      (b.0, omega (arith, store))
+      (b.0, omega (arith, here, store))
   cost_assign table place (e.ToElement spot variable kind index) value h first next b =
+      let here : held_price names (set_before p t first) ≡ held_price names h = ap (held_price names) b.0 in
       let store : held_price names (set_before p t (suc first)) ≡ held_price names h = ap (held_price names) b.1.0 in
-      (b.0, omega (arith, store))
+      (b.0, omega (arith, here, store))
 
   module _ (vs : List Variable) (ks : List Kind) (table : Table) where
     mutual

@@ -18,7 +18,10 @@ use Rattle.memory_layout.specs.Variables.{AreAddresses}
 use Rattle.thread_code.specs.Plans.{Plan, Thread, IsPlan, IsThread, homes, home_of_colour}
 use Rattle.rv64_codegen.specs.Locals.{HasHomes}
 use Rattle.rv64_codegen.specs.links.Threads.{thread_at, kinds_in}
-use Rattle.rv64_codegen.proofs.PlannedNodes.{locals_are}
+use Rattle.log_schemes.specs.declared.log.Log.{Log}
+use Rattle.log_schemes.specs.Schemes.{locals_of}
+use Rattle.rv64_codegen.proofs.LocalRegisters.{home_stands}
+use Rattle.rv64_codegen.proofs.PlannedNodes.{locals_are, thread_below}
 use Rattle.expr_code.specs.declared.home.Home.{Home}
 use Rattle.expr_code.specs.EvaluationCode.{home_of, is_home}
 
@@ -92,19 +95,19 @@ addresses_are vs addresses are =
 pub local_number : (colour : ℕ) → colour < 18 → is_local (slice_index LOCALS colour) ≡ true
 local_number colour h = all_index is_local LOCALS colour refl h
 
-locals_local : (colours : List ℕ) (local : ℕ) → ((colour : ℕ) → Contains colours colour → colour < 18) → local < length colours →
-    is_home (home_of (map home_of_colour colours) local) ≡ true
-locals_local [] local each h = absurd (omega (arith, h))
-locals_local (c ∷ cs) zero each h = local_number c (each c (0, omega arith, refl))
-locals_local (c ∷ cs) (suc local) each h =
-    locals_local cs local (λ colour among. each colour (suc among.0, omega (arith, among.1), among.2)) (omega (arith, h))
+locals_stand : (log : Log) (thread : ℕ) → thread < 8 → (colours : List ℕ) (local : ℕ) → ((colour : ℕ) → Contains colours colour → colour < 18) →
+    local < length colours → is_home (home_of (map (home_of_colour log thread) colours) local) ≡ true
+locals_stand log thread few [] local each h = absurd (omega (arith, h))
+locals_stand log thread few (c ∷ cs) zero each h = home_stands (locals_of log) log thread c (each c (0, omega arith, refl)) few
+locals_stand log thread few (c ∷ cs) (suc local) each h =
+    locals_stand log thread few cs local (λ colour among. each colour (suc among.0, omega (arith, among.1), among.2)) (omega (arith, h))
 
 module _ (p : Plan) (plan : IsPlan p) (t : Thread) (th : IsThread p t) where
   pub colours_long : length th.colours ≡ length th.text.locals
   colours_long = plan.registers.locals t.number t.part th.colours th.nodes th.of_colours ∙ locals_are p plan t th
 
   pub homes_long : length t.locals ≡ length th.text.locals
-  homes_long = ap (λ (hs : List Home). length hs) th.locals ∙ length-map th.colours home_of_colour ∙ colours_long
+  homes_long = ap (λ (hs : List Home). length hs) th.locals ∙ length-map th.colours (home_of_colour p.log t.number) ∙ colours_long
 
   pub has_homes : HasHomes p.flat.variables th.text.locals (homes p t)
   has_homes = record {
@@ -112,7 +115,8 @@ module _ (p : Plan) (plan : IsPlan p) (t : Thread) (th : IsThread p t) where
         ∙ length-numbers (length p.flat.variables);
     locals = homes_long;
     home = λ local h. ap (λ (hs : List Home). is_home (home_of hs local)) th.locals
-        ∙ locals_local th.colours local (λ colour among. plan.registers.exist t.number colour th.colours th.of_colours among)
+        ∙ locals_stand p.log t.number (thread_below p plan t th) th.colours local (λ colour among. plan.registers.exist t.number colour th.colours
+        th.of_colours among)
         (omega (arith, h, colours_long));
   }
 
@@ -140,6 +144,7 @@ pub one_thread : (p : Plan) (t u : Thread) → IsThread p t → IsThread p u →
 one_thread p t u th uh e =
     let parts : t.part ≡ u.part = same_some _ _ _ th.nodes (ap (slice_get p.graph.threads) e ∙ uh.nodes) in
     let colours : th.colours ≡ uh.colours = same_some _ _ _ th.of_colours (ap (slice_get p.colours) e ∙ uh.of_colours) in
-    let locals : t.locals ≡ u.locals = th.locals ∙ ap (λ (cs : List ℕ). map home_of_colour cs) colours ∙ sym uh.locals in
+    let locals : t.locals ≡ u.locals = th.locals ∙ ap (λ (cs : List ℕ). map (home_of_colour p.log t.number) cs) colours
+    ∙ ap (λ (n : ℕ). map (home_of_colour p.log n) uh.colours) e ∙ sym uh.locals in
     thread_is p t th ∙ ap (λ (n : ℕ). thread_at p n t.part t.locals) e ∙ ap (λ (q : Part). thread_at p u.number q t.locals) parts
     ∙ ap (λ (hs : List Home). thread_at p u.number u.part hs) locals ∙ sym (thread_is p u uh)

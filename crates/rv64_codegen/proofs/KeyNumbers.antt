@@ -85,7 +85,7 @@ module _ (h : Homes) (s : Source) (key : e.Expr) (code address : List Instr) (lo
   abbrev base_code : List Instr
   base_code = Op Add 30 31 3 ∷ []
 
-  module _ (around : Environment) (bank : ℕ) (x y : List ℕ) (at : ℕ) (below : bank < 2) (locals : HoldsLocals h s x key)
+  module _ (around : Environment) (bank : ℕ) (x y : List ℕ) (at : ℕ) (below : bank < 2) (locals : HoldsLocals h s around.loads x key)
       (under : IsUnderWay log thread bank x y) (there : HasCodeThere around (key_code code first address) (config y at)) where
     abbrev offset : ℕ
     offset = bank_bytes log * bank
@@ -103,9 +103,9 @@ module _ (h : Homes) (s : Source) (key : e.Expr) (code address : List Instr) (lo
     there_1 = at_left around code first_code begin there_2
 
     -- the locals are where they were as the boundary began
-    locals_there : HoldsLocals h s y key
+    locals_there : HoldsLocals h s around.loads y key
     locals_there =
-        locals_kept h s x y key suits formed (λ n l. under.others n (local_plain n l) (local_other n 3 refl l)) locals
+        locals_kept h s around.loads x y key suits formed (λ n l. under.others n (local_plain n l) (local_other n 3 refl l)) locals
 
     valued : EvaluationEnds around code is_temporary (λ z. read z 5 ≡ element) begin
     valued =
@@ -196,9 +196,10 @@ module _ (h : Homes) (s : Source) (key : e.Expr) (code address : List Instr) (lo
     }
 
   -- from registers in which the key's locals stand
-  pub key_leaves : (x : List ℕ) → HoldsLocals h s x key → LeavesNumber log thread x (element + first) (key_code code first address)
-  key_leaves x locals = record {
-    leaves = λ around bank y at below under stands room.
+  pub key_leaves : (around : Environment) (x : List ℕ) → HoldsLocals h s around.loads x key →
+      LeavesNumber around log thread x (element + first) (key_code code first address)
+  key_leaves around x locals = record {
+    leaves = λ bank y at below under stands room.
         left around bank x y at below locals under
         (record { registers = record { count = under.count; zero_is = under.zero_is }; stands = stands; room = room });
   }

@@ -118,22 +118,23 @@ module _ (p : Plan) (t : Thread) (plan : IsPlan p) (of : IsThread p t) where
       omega (arith, close, small, is)
 
   module _ (seen : Seen) (around : Environment) (x : List ℕ) where
-    pub may_evaluate : (t' : e.Placed) → IsFlatPlaced p.flat t.kinds t' → HoldsEach (homes p t) (source_of p t seen) x (expr_locals t'.expr) →
+    pub may_evaluate : (t' : e.Placed) → IsFlatPlaced p.flat t.kinds t' → HoldsEach (homes p t) (source_of p t seen) around.loads x (expr_locals t'.expr) →
         AreLoaded (source_of p t seen) around.loads t'.expr → MayEvaluate (homes p t) (source_of p t seen) around x t'.expr
     may_evaluate t' formed held loaded = record {
       legal = record { suits = suits seen; formed = formed.0; fits = formed.1; loaded = loaded };
-      locals = reads_are_held (homes p t) (source_of p t seen) x t'.expr formed.0 held;
+      locals = reads_are_held (homes p t) (source_of p t seen) around.loads x t'.expr formed.0 held;
     }
 
-    pub may_reach : (target : e.Lvalue) → IsFlatTarget p.flat t.kinds target → HoldsEach (homes p t) (source_of p t seen) x (target_locals target) →
+    pub may_reach : (target : e.Lvalue) → IsFlatTarget p.flat t.kinds target →
+        HoldsEach (homes p t) (source_of p t seen) around.loads x (target_locals target) →
         IsAnsweredIn (source_of p t seen) around.loads target → MayReach (homes p t) (source_of p t seen) around x target
     may_reach (e.ToLocal place local kind) formed held loaded = tt
     may_reach (e.ToVariable place variable kind) formed held loaded = slice_get_within vs variable formed.0.it formed.0.found
     may_reach (e.ToElement place variable kind index) formed held loaded =
         (formed.0.0, formed.1.0, may_evaluate index (formed.0.1, formed.1.1) held loaded)
 
-    pub reads_held : (t' : e.Placed) → IsFlatPlaced p.flat t.kinds t' → HoldsEach (homes p t) (source_of p t seen) x (expr_locals t'.expr) →
+    pub reads_held : (t' : e.Placed) → IsFlatPlaced p.flat t.kinds t' → HoldsEach (homes p t) (source_of p t seen) around.loads x (expr_locals t'.expr) →
         AreLoaded (source_of p t seen) around.loads t'.expr → AllHeld seen.locals seen.variables t'.expr
     reads_held t' formed held loaded =
         all_held (homes p t) (source_of p t seen) around.loads x t'.expr
-        (reads_are_held (homes p t) (source_of p t seen) x t'.expr formed.0 held) formed.0 loaded
+        (reads_are_held (homes p t) (source_of p t seen) around.loads x t'.expr formed.0 held) formed.0 loaded

@@ -5,6 +5,7 @@ mod Pieces
 mod NeededTemporaries
 mod Results
 mod ReadLocals
+mod AnsweredHomes
 mod JoinedAddresses
 mod Addresses
 mod PieceSites
@@ -19,7 +20,10 @@ mod StoresAfterEvaluations
 mod LocalRegisters
 mod RegistersAfterNodes
 mod LegalEvaluations
+mod KnownNodes
 mod PieceParts
+mod GuardParts
+mod LoggedNodes
 mod NodeCorrectness
 mod KeyNumbers
 mod NameNumbers

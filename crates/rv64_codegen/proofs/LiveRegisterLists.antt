@@ -18,11 +18,16 @@ use Rattle.flow_graph.specs.IdempotentCuts.{IsStoreNode, stores}
 use Rattle.flow_graph.specs.Liveness.{NodeAt}
 use Rattle.flow_graph.specs.LocalSets.{HasAt}
 use Rattle.flow_graph.proofs.Public.{found_in}
-use Rattle.thread_code.specs.Plans.{Plan, Thread, IsPlan, IsThread, IsKept, of_local, of_address, of_value, AreKept, home_of_colour}
+use Rattle.thread_code.specs.Plans.{Plan, Thread, IsPlan, IsThread, IsKept, of_local, of_address, of_value, AreKept, home_at, home_of_colour}
+use Rattle.log_schemes.specs.declared.log.Log.{Log}
+use Rattle.log_schemes.specs.declared.locals.Locals.{Locals}
+use Rattle.log_schemes.specs.declared.locals.Locals.TheVariants.{Registers, Frame}
+use Rattle.log_schemes.specs.Schemes.{is_pending, locals_of, may_keep, may_keep_at}
+use Rattle.rv64_codegen.proofs.LocalRegisters.{framed}
 use Rattle.rv64_codegen.specs.links.LiveRegisters.{HasLive, IsLiveAmong, AreLiveLocals, is_store, AreWithPending, AreLiveRegisters, IsLiveRegister, AreLists}
 use Rattle.rv64_codegen.proofs.Homes.{homes_long, colours_long}
 use Rattle.expr_code.specs.declared.home.Home.{Home}
-use Rattle.expr_code.specs.declared.home.Home.TheVariants.{InRegister}
+use Rattle.expr_code.specs.declared.home.Home.TheVariants.{InRegister, InFrame}
 use Rattle.expr_code.specs.EvaluationCode.{home_of}
 use Rattle.expr_code.proofs.Public.{same_register}
 
@@ -182,6 +187,20 @@ contained_index [] k h = absurd (omega (arith, h))
 contained_index (y ∷ xs) zero h = (0, omega arith, refl)
 contained_index (y ∷ xs) (suc k) h = let c = contained_index xs k (omega (arith, h)) in (suc c.0, omega (arith, c.1), c.2)
 
+register_by : (l : Locals) (log : Log) (thread colour register : ℕ) → home_at l log thread colour ≡ InRegister register →
+    slice_index LOCALS colour ≡ register
+register_by Registers log thread colour register is = same_register _ _ is
+register_by Frame log thread colour register is = absurd (let z : ⊥ = cc in z)
+
+all_by : (test : ℕ → Bool) (xs : List ℕ) → ((x : ℕ) → Contains xs x → test x ≡ true) → list_all test xs ≡ true
+all_by test [] each = refl
+all_by test (x ∷ xs) each =
+    ap₂ (λ (a b : Bool). a && b) (each x (0, omega arith, refl)) (all_by test xs (λ y c. each y (suc c.0, omega (arith, c.1), c.2)))
+
+none_among : (xs : List ℕ) → ((x : ℕ) → Contains xs x → ⊥) → length xs ≡ 0
+none_among [] none = refl
+none_among (x ∷ xs) none = absurd (none x (0, omega arith, refl))
+
 module _ (p : Plan) (plan : IsPlan p) (t : Thread) (th : IsThread p t) (node : ℕ) (found : List ℕ)
     (are : AreLiveRegisters p.graph t.locals p.live node found) where
   kept_among : (r : ℕ) → HasLive t.locals p.live node (InRegister r) → IsKept p t node r
@@ -203,8 +222,9 @@ module _ (p : Plan) (plan : IsPlan p) (t : Thread) (th : IsThread p t) (node : �
       inl (record {
         number = slice_index th.colours local;
         below = plan.registers.exist t.number (slice_index th.colours local) th.colours th.of_colours (contained_index th.colours local short);
-        is = same_register _ _
-            (sym (ap (λ (hs : List Home). home_of hs local) th.locals ∙ get_or-map home_of_colour th.colours local 0 (InRegister 0) short) ∙ there);
+        is = register_by (locals_of p.log) p.log t.number (slice_index th.colours local) register
+            (sym (ap (λ (hs : List Home). home_of hs local) th.locals ∙ get_or-map (home_of_colour p.log t.number) th.colours local 0 (InRegister 0) short)
+            ∙ there);
         live = record {
           local = local;
           has = slice_get-get_or t.locals local (InRegister 0) (omega (arith, below, homes_long p plan t th)) ∙ ap Some there;
@@ -219,3 +239,29 @@ module _ (p : Plan) (plan : IsPlan p) (t : Thread) (th : IsThread p t) (node : �
 
   pub are_kept : AreKept p t node found
   are_kept r = (λ c. kept_live r ((are.each r).0 c), λ w. (are.each r).1 (live_kept r w))
+
+  -- where locals stand in the frame none is in a register
+  none_in_frame : locals_of p.log ≡ Frame → (r : ℕ) → IsLiveAmong t.locals p.live node 18 r → ⊥
+  none_in_frame frame r l =
+      let has = l.live.has in
+      let below : l.live.local < length t.kinds =
+      omega (arith, slice_get_within t.locals l.live.local (InRegister r) has, homes_long p plan t th, ap (λ (ks : List Kind). length ks) th.kinds) in
+      let in_register : home_of t.locals l.live.local ≡ InRegister r = home_there t.locals l.live.local (InRegister r) has in
+      let in_frame = framed p t plan th frame l.live.local below in
+      let z : ⊥ = cc in z
+
+  pending_only : locals_of p.log ≡ Frame → (r : ℕ) → IsLiveRegister p.graph t.locals p.live node r → is_pending r ≡ true
+  pending_only frame r w = ⊎_elim (λ l. absurd (none_in_frame frame r l))
+      (λ s. ⊎_elim (λ e. ap is_pending e) (λ e. ap is_pending e) s.1) w
+
+  -- a boundary may keep them
+  pub are_keepable : list_all (may_keep p.log) found ≡ true
+  are_keepable = by (locals_of p.log) refl
+    where
+      by : (l : Locals) → locals_of p.log ≡ l → list_all (may_keep p.log) found ≡ true
+      by Registers is = ap (λ (m : Locals). list_all (may_keep_at m) found) is ∙ are.kept
+      by Frame is = ap (λ (m : Locals). list_all (may_keep_at m) found) is ∙ all_by is_pending found (λ r c. pending_only is r ((are.each r).0 c))
+
+  -- there are none but before a store, where locals stand in the frame
+  pub none_live : locals_of p.log ≡ Frame → (IsStoreNode p.graph node → ⊥) → length found ≡ 0
+  none_live frame free = none_among found (λ r c. ⊎_elim (λ l. none_in_frame frame r l) (λ s. free s.0) ((are.each r).0 c))

@@ -14,10 +14,13 @@ use Rattle.node_code.proofs.Public.{Lies}
 use Rattle.thread_code.specs.Plans.{Plan, Thread, locks_before}
 use Rattle.thread_code.specs.NodeCodeEffects.{Places}
 use Rattle.thread_code.specs.Programs.{mark_of, IsOn, IsCallWithin, IsWithin}
-use Rattle.rv64_codegen.specs.ThreadPieces.{Choices, GoesTo, IsChoosing, turned, straight, IsDoing}
+use Rattle.ido_base.specs.declared.place.Place.{Place}
+use Rattle.ido_ints.specs.declared.kinds.Kind.{Kind}
+use Rattle.rv64_codegen.specs.ThreadPieces.{Choices, GoesTo, IsAssigning, IsChoosing, turned, straight, IsDoing, IsSetting, in_register, in_section, outside}
 use Rattle.rv64_codegen.proofs.JoinedAddresses.{Ascends}
 use Rattle.rv64_codegen.proofs.Addresses.{on_here, on_then, on_up, lies_on, IsAmong, marked_among, boundary_grows}
 use Rattle.rv64_codegen.proofs.PieceSites.{spot_site, AgreesAt, bare, bare_meets}
+use Rattle.rv64_codegen.proofs.GuardParts as guards
 use Rattle.rv64_codegen.proofs.PieceParts as parts
 use Rattle.rv64_codegen.proofs.PieceParts.{PlacedNode, call_of, chosen_or_not, does_closed, spots_in}
 use Rattle.rv64_codegen.proofs.PieceSplits.{addresses_split}
@@ -95,7 +98,7 @@ module _ {p : Plan} {t : Thread} {c : Choices} (places : Places) (it : PlacedNod
 
   first_marks : marked_from k before ≡ []
   first_marks = elim (chosen_or_not p.graph p.boundaries node is found) [
-    | inl chosen ↦ ((guarded.chosen chosen []).at first_site).marks
+    | inl chosen ↦ guards.guard_marks p t c node is.action before (guarded.chosen chosen) n (parts.before_spot it)
     | inr not ↦ ap (λ (xs : List CodeItem). marked_from k xs) (guarded.plain not)
   ]
 
@@ -128,7 +131,27 @@ module _ {p : Plan} {t : Thread} {c : Choices} (places : Places) (it : PlacedNod
     no_resumes : resumed_from k₂ goes ≡ []
     last : IsLast action
 
-  module _ (g : AgreesAt places program c.live c.cleans node (spots_in it)) where
+  -- what an assignment does begins with its mark, and is resumed nowhere
+  record Begins : Type 0 where
+    marks : marked_from k₁ does ≡ at k₁ ∷ []
+    resumes : resumed_from k₁ does ≡ []
+
+  setting_begins : (place : Place) (local : ℕ) (kind : Kind) (value : e.Expr) → IsSetting p t c node place local kind value does → Begins
+  setting_begins place local kind value (in_register register home d) =
+      record { marks = (d.at middle_site).marks; resumes = (d.at middle_site).resumes }
+  setting_begins place local kind value (in_section word home it_is d) =
+      record { marks = (d.at middle_site).marks; resumes = (d.at middle_site).resumes }
+  setting_begins place local kind value (outside word home none d) =
+      record { marks = (d.at middle_site).marks; resumes = (d.at middle_site).resumes }
+
+  assigning_begins : (target : e.Lvalue) (value : e.Expr) → IsAssigning p t c node target value does → Begins
+  assigning_begins (e.ToLocal place local kind) value d = setting_begins place local kind value d
+  assigning_begins (e.ToVariable place variable kind) value d =
+      record { marks = (d.at middle_site).marks; resumes = (d.at middle_site).resumes }
+  assigning_begins (e.ToElement place variable kind index) value d =
+      record { marks = (d.at middle_site).marks; resumes = (d.at middle_site).resumes }
+
+  module _ (g : AgreesAt places program c.live c.kept c.cleans node (spots_in it)) where
     at_core : marked_from k₁ does ≡ at k₁ ∷ [] → marked_from k₁ does ≡ places.core node ∷ []
     at_core m = m ∙ ap (λ (y : ℕ). y ∷ []) (sym g.core)
 
@@ -150,13 +173,15 @@ module _ {p : Plan} {t : Thread} {c : Choices} (places : Places) (it : PlacedNod
 
     says : (action : Action) → (d : IsDoing p t c node action does goes) →
         places.call node ≡ call_of it action d → Says action
-    says (Eval target value next) d call = record {
-      marks = at_core (d.0.at middle_site).marks;
-      no_marks = goes_marks next d.1;
-      resumes = (d.0.at middle_site).resumes;
-      no_resumes = goes_resumes next d.1;
-      last = tt;
-    }
+    says (Eval target value next) d call =
+        let begins = assigning_begins target value.expr d.0 in
+        record {
+          marks = at_core begins.marks;
+          no_marks = goes_marks next d.1;
+          resumes = begins.resumes;
+          no_resumes = goes_resumes next d.1;
+          last = tt;
+        }
     says (Store variable kind next) d call = record {
       marks = at_core (d.0.at middle_site).marks;
       no_marks = goes_marks next d.1;
@@ -204,7 +229,8 @@ module _ {p : Plan} {t : Thread} {c : Choices} (places : Places) (it : PlacedNod
           addresses_split at is_resume k before does goes ∙
           ends_in (resumed_from k before) (resumed_from k₁ does) (resumed_from k₂ goes) it_says.no_resumes ∙
           ap (λ (ns : List ℕ). resumed_from k before ++ ns) it_says.resumes;
-      chosen = λ chosen. ((guarded.chosen chosen []).at first_site).resumes ∙ ap (λ (y : ℕ). y ∷ []) (sym g.core);
+      chosen = λ chosen. guards.guard_resumes p t c node is.action before (guarded.chosen chosen) n (parts.before_spot it)
+          ∙ ap (λ (y : ℕ). y ∷ []) (sym g.core);
       plain = λ not. ap (λ (xs : List CodeItem). resumed_from k xs) (guarded.plain not);
     }
 
@@ -240,7 +266,7 @@ module _ {p : Plan} {t : Thread} {c : Choices} (places : Places) (it : PlacedNod
 
     -- the node's places lie in it, in their order
     pub is_within : IsWithin places is.action node
-    is_within = within_by is.action it_says.last mark_among
+    is_within = within_by is.action doing g.store it_says.last mark_among
       where
         at_core_alone : (action : Action) → mark_of places action node ≡ places.core node → Among action → IsCallWithin places action node →
             IsWithin places action node
@@ -254,11 +280,39 @@ module _ {p : Plan} {t : Thread} {c : Choices} (places : Places) (it : PlacedNod
         call_on : at k₂ ≡ places.call node + 4 → IsOn (places.core node + 4) (at k₂) → IsOn (places.core node) (places.call node)
         call_on is_last f = let end : at k₂ ≡ places.core node + 4 + 4 * f.words = f.is in record { words = f.words; is = omega (arith, is_last, end) }
 
-        within_by : (action : Action) → IsLast action → Among action → IsWithin places action node
-        within_by (Eval target value following) h among = at_core_alone (Eval target value following) refl among tt
-        within_by (Store variable kind following) h among = at_core_alone (Store variable kind following) refl among tt
-        within_by (Test condition holds fails) h among = at_core_alone (Test condition holds fails) refl among tt
-        within_by (Lock lock following) h among =
+        -- the store of an assignment outside sections is its last word
+        store_on : (from : ℕ) → at k₂ ≡ from + 4 → IsOn (at k₁ + 4) (at k₂) → IsOn (at k₁) from × IsOn (from + 4) next
+        store_on from end after =
+            let whole : at k₂ ≡ at k₁ + 4 + 4 * after.words = after.is in
+            (record { words = after.words; is = omega (arith, end, whole) }, subst (λ (a : ℕ). IsOn a next) end last_on)
+
+        -- else it is where the core begins
+        core_on : IsOn (at k₁ + 4) (at k₂) → IsOn (at k₁) (at k₁) × IsOn (at k₁ + 4) next
+        core_on after = (record { words = 0; is = omega arith }, on_then (at k₁ + 4) (at k₂) next after last_on)
+
+        setting_on : (place : Place) (local : ℕ) (kind : Kind) (value : e.Expr) (d : IsSetting p t c node place local kind value does) →
+            IsOn (at k₁ + 4) (at k₂) → IsOn (at k₁) (parts.setting_store it d) × IsOn (parts.setting_store it d + 4) next
+        setting_on place local kind value (in_register register home d) after = core_on after
+        setting_on place local kind value (in_section word home it_is d) after = core_on after
+        setting_on place local kind value (outside word home none d) after = store_on (d.at middle_site).store (d.at middle_site).after after
+
+        assigning_on : (target : e.Lvalue) (value : e.Expr) (d : IsAssigning p t c node target value does) → IsOn (at k₁ + 4) (at k₂) →
+            IsOn (at k₁) (parts.assigning_store it target value d) × IsOn (parts.assigning_store it target value d + 4) next
+        assigning_on (e.ToLocal place local kind) value d after = setting_on place local kind value d after
+        assigning_on (e.ToVariable place variable kind) value d after = core_on after
+        assigning_on (e.ToElement place variable kind index) value d after = core_on after
+
+        within_by : (action : Action) (d : IsDoing p t c node action does goes) → places.store node ≡ parts.store_of it action d → IsLast action →
+            Among action → IsWithin places action node
+        within_by (Eval target value following) d store h among =
+            let on = assigning_on target value.expr d.0 (subst (λ (a : ℕ). IsOn (a + 4) (at k₂)) g.core among.after) in
+            at_core_alone (Eval target value following) refl among (
+              subst (λ (a : ℕ). IsOn a (places.store node)) (sym g.core) (subst (λ (a : ℕ). IsOn (at k₁) a) (sym store) on.0),
+              subst (λ (a : ℕ). IsOn (a + 4) next) (sym store) on.1,
+            )
+        within_by (Store variable kind following) d store h among = at_core_alone (Store variable kind following) refl among tt
+        within_by (Test condition holds fails) d store h among = at_core_alone (Test condition holds fails) refl among tt
+        within_by (Lock lock following) d store h among =
             let call : ℕ = places.call node in
             let before : IsOn (places.core node) call = subst (λ (a : ℕ). IsOn a call) (sym g.core) among.before in
             let over : call ≡ places.core node + 4 * before.words = before.is in
@@ -272,20 +326,20 @@ module _ {p : Plan} {t : Thread} {c : Choices} (places : Places) (it : PlacedNod
                 subst (λ (a : ℕ). IsOn a next) (sym g.after) last_on,
               );
             }
-        within_by (Unlock lock following) h among =
+        within_by (Unlock lock following) d store h among =
             at_core_alone (Unlock lock following) refl among (
               call_on h among.after,
               on_here (places.call node + 4) (places.after node) (sym h ∙ sym g.after),
               subst (λ (a : ℕ). IsOn a next) (sym g.after) last_on,
             )
-        within_by End h among = at_core_alone End refl among (call_on h among.after, subst (λ (a : ℕ). IsOn a next) h last_on)
+        within_by End d store h among = at_core_alone End refl among (call_on h among.after, subst (λ (a : ℕ). IsOn a next) h last_on)
 
     -- ---- Order
 
-    chosen_grows : IsChosen p.graph p.boundaries node → places.entry node < places.core node
+    pub chosen_grows : IsChosen p.graph p.boundaries node → places.entry node < places.core node
     chosen_grows chosen =
         let lie : Lies at k before = part_lies at items whole k before first_site.is_part in
-        let up : at k < at k₁ = boundary_grows before (guarded.chosen chosen []).fences at k lie in
+        let up : at k < at k₁ = boundary_grows before (guards.guard_fences p t c node is.action before (guarded.chosen chosen)) at k lie in
         let begin : at k ≡ places.entry node = sited.begin in
         let core : places.core node ≡ at k₁ = g.core in
         omega (arith, up, begin, core)

@@ -19,15 +19,17 @@ use Rattle.c_tree.specs.WellFormed.{Fits, IsExpr, IsFlatLockName}
 use Rattle.c_ranges.proofs.Public.{fits_element, key_expr, key_fits}
 use Rattle.rv64_isa.specs.declared.instr.Instr.{Instr}
 use Rattle.operator_code.specs.StraightLineCode.{IsConstant}
+use Rattle.code_runs.specs.ComputingRuns.{Environment}
 use Rattle.expr_code.specs.EvaluationCode.{AreLoaded, HoldsLocals, Homes, Source}
 use Rattle.expr_code.proofs.Public.{absolute, all_held}
 use Rattle.node_code.specs.Numbers.{LeavesNumber, LeaveNumbers}
 use Rattle.node_code.proofs.Public.{constant_leaves}
 use Rattle.flow_graph.specs.Actions.{Seen}
 use Rattle.thread_code.specs.Plans.{Plan, IsPlan, Thread, IsThread, IsNodeOf, held_names_before, homes, locks_before, names_in, set_before}
-use Rattle.thread_code.specs.RegistersAtNodes.{Enters, source_of}
+use Rattle.thread_code.specs.RegistersAtNodes.{Enters, IsFrameAnswered, LogView, source_of}
 use Rattle.rv64_codegen.specs.Locals.{HoldsEach}
 use Rattle.rv64_codegen.specs.links.Numbers.{IsNumberBy, IsNumberCode}
+use Rattle.rv64_codegen.proofs.AnsweredHomes.{answered_home}
 use Rattle.rv64_codegen.proofs.KeyNumbers.{key_leaves}
 use Rattle.rv64_codegen.proofs.LegalEvaluations.{suits}
 use Rattle.rv64_codegen.proofs.ReadLocals.{reads_are_held}
@@ -66,7 +68,8 @@ key_value ls vs ks (e.Conditional kind x y z) h =
 
 -- ---- Codes
 
-module _ (p : Plan) (t : Thread) (plan : IsPlan p) (of : IsThread p t) (seen : Seen) (x : List ℕ) (few : length p.flat.mutexes ≤ 1024) where
+module _ (p : Plan) (t : Thread) (plan : IsPlan p) (of : IsThread p t) (seen : Seen) (around : Environment) (x : List ℕ)
+    (few : length p.flat.mutexes ≤ 1024) where
   abbrev h : Homes
   h = homes p t
 
@@ -77,7 +80,7 @@ module _ (p : Plan) (t : Thread) (plan : IsPlan p) (of : IsThread p t) (seen : S
   pub record KeyKnown (mutex : ℕ) (key : e.Placed) : Type 0 where
     pub expr : IsExpr s.variables s.kinds key.expr
     pub fits : Fits s.variables key.expr
-    pub locals : HoldsLocals h s x key.expr
+    pub locals : HoldsLocals h s around.loads x key.expr
     pub unloaded : (loads : ℕ → ℕ → Option ℕ) → AreLoaded s loads key.expr
     pub element : ℕ
     pub number : (value s.locals s.numbers key.expr).number ≡ pos element
@@ -85,14 +88,13 @@ module _ (p : Plan) (t : Thread) (plan : IsPlan p) (of : IsThread p t) (seen : S
     pub same : element + mutex ≡ lock_number seen.locals (record { mutex = mutex; key = Some key })
 
   pub key_known : (mutex : ℕ) (key : e.Placed) → IsFlatLockName p.flat.mutexes t.kinds (record { mutex = mutex; key = Some key }) →
-      HoldsEach h s x (key_locals (record { mutex = mutex; key = Some key })) → KeyKnown mutex key
+      HoldsEach h s around.loads x (key_locals (record { mutex = mutex; key = Some key })) → KeyKnown mutex key
   key_known mutex key formed held =
       let expr = key_expr p.flat.variables t.kinds key.expr formed.reads in
-      let locals : HoldsLocals h s x key.expr = reads_are_held h s x key.expr expr held in
+      let locals : HoldsLocals h s around.loads x key.expr = reads_are_held h s around.loads x key.expr expr held in
       let unloaded : (loads : ℕ → ℕ → Option ℕ) → AreLoaded s loads key.expr =
       λ loads. key_unloaded s loads t.kinds key.expr formed.reads formed.follows in
-      let no_loads : ℕ → ℕ → Option ℕ = λ address bytes. None in
-      let values = all_held h s no_loads x key.expr locals expr (unloaded no_loads) in
+      let values = all_held h s around.loads x key.expr locals expr (unloaded around.loads) in
       let named = fits_element (mutexes_of p.flat.mutexes mutex) key.expr formed.fits s.locals s.numbers values in
       let element : ℕ = element_at (value s.locals s.numbers key.expr) in
       record {
@@ -109,22 +111,26 @@ module _ (p : Plan) (t : Thread) (plan : IsPlan p) (of : IsThread p t) (seen : S
   module _ (reach : (bank : ℕ) → bank < 2 → log_of p.log t.number + bank_bytes p.log * bank < 2 ^ 32) (address : List Instr)
       (is_log : IsConstant 31 (log_of p.log t.number) address) where
     name_by : (mutex : ℕ) (key : Option e.Placed) (code : List Instr) → IsFlatLockName p.flat.mutexes t.kinds (record { mutex = mutex; key = key }) →
-        HoldsEach h s x (key_locals (record { mutex = mutex; key = key })) → IsNumberBy h address mutex key code →
-        LeavesNumber p.log t.number x (lock_number seen.locals (record { mutex = mutex; key = key })) code
+        HoldsEach h s around.loads x (key_locals (record { mutex = mutex; key = key })) → IsNumberBy h address mutex key code →
+        LeavesNumber around p.log t.number x (lock_number seen.locals (record { mutex = mutex; key = key })) code
     name_by mutex None code formed held is =
         let low : mutex < length p.flat.mutexes = slice_get_within p.flat.mutexes mutex formed.it formed.found in
-        subst (λ (c : List Instr). LeavesNumber p.log t.number x mutex c) (sym is) (constant_leaves p.log t.number x mutex (omega (arith, low, few)))
+        subst (λ (c : List Instr). LeavesNumber around p.log t.number x mutex c) (sym is) (constant_leaves around p.log t.number x mutex (omega (
+          arith,
+          low,
+          few,
+        )))
     name_by mutex (Some key) code formed held is =
         let known = key_known mutex key formed held in
-        subst (λ (n : ℕ). LeavesNumber p.log t.number x n code) known.same
-        (subst (λ (c : List Instr). LeavesNumber p.log t.number x (known.element + mutex) c) (sym is.is)
+        subst (λ (n : ℕ). LeavesNumber around p.log t.number x n code) known.same
+        (subst (λ (c : List Instr). LeavesNumber around p.log t.number x (known.element + mutex) c) (sym is.is)
         (key_leaves h s key.expr is.of_value address p.log t.number mutex known.element is.value.is_value is_log (suits p t plan of seen) known.expr known.fits
-        known.unloaded known.number known.small reach x known.locals))
+        known.unloaded known.number known.small reach around x known.locals))
 
     -- of each of the names, where its key's locals are in their homes
     names_leave : (names : List e.LockName) (codes : List (List Instr)) → AllByRecursion (IsFlatLockName p.flat.mutexes t.kinds) names →
-        AllByRecursion (λ (y : e.LockName). HoldsEach h s x (key_locals y)) names → AllZip (IsNumberCode h address) names codes →
-        LeaveNumbers p.log t.number x (map (lock_number seen.locals) names) codes
+        AllByRecursion (λ (y : e.LockName). HoldsEach h s around.loads x (key_locals y)) names → AllZip (IsNumberCode h address) names codes →
+        LeaveNumbers around p.log t.number x (map (lock_number seen.locals) names) codes
     names_leave [] [] formed held are = tt
     names_leave [] (code ∷ codes) formed held are = absurd are
     names_leave (y ∷ names) [] formed held are = absurd are
@@ -139,14 +145,17 @@ module _ (p : Plan) (t : Thread) (plan : IsPlan p) (of : IsThread p t) (seen : S
     all_of_held P (y ∷ names) (false ∷ set) each = all_of_held P names set (λ k z. each (suc k) z)
 
     -- registers with which the thread enters a node have the numbers of all that it holds there
-    pub held_leave : (node side : ℕ) (codes : List (List Instr)) → IsNodeOf t node → Enters p t node seen side x →
+    pub held_leave : (node : ℕ) (view : LogView) (codes : List (List Instr)) → IsNodeOf t node → Enters p t node seen view x →
+        IsFrameAnswered p t view node around.loads →
         ((k : ℕ) (y : e.LockName) → slice_get (names_in p t) k ≡ Some y → holds (set_before p t node) k ≡ true →
         IsFlatLockName p.flat.mutexes t.kinds y) →
         AllZip (IsNumberCode h address) (held_names_before p t node) codes →
-        LeaveNumbers p.log t.number x (locks_before p t seen.locals node) codes
-    held_leave node side codes own enters formed are =
+        LeaveNumbers around p.log t.number x (locks_before p t seen.locals node) codes
+    held_leave node view codes own enters frame formed are =
         names_leave (held_names_before p t node) codes
         (all_of_held (IsFlatLockName p.flat.mutexes t.kinds) (names_in p t) (set_before p t node) formed)
-        (all_of_held (λ (y : e.LockName). HoldsEach h s x (key_locals y)) (names_in p t) (set_before p t node)
-        (λ k y there held local kind reads is. enters.locals local kind is (plan.keys_live t of node own k local y there held reads)))
+        (all_of_held (λ (y : e.LockName). HoldsEach h s around.loads x (key_locals y)) (names_in p t) (set_before p t node)
+        (λ k y there held local kind reads is.
+        let live = plan.keys_live t of node own k local y there held reads in
+        answered_home p t seen view around.loads node local kind x frame live (enters.locals local kind is live)))
         are

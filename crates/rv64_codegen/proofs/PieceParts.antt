@@ -14,10 +14,14 @@ use Rattle.flow_graph.specs.IdempotentCuts.{Boundaries, IsUnlock, unlocks, IsCho
 use Rattle.flow_graph.specs.Liveness.{NodeAt}
 use Rattle.node_code.specs.Sites.{IsPart, Site, mark_waits}
 use Rattle.node_code.specs.Pieces.{IsClosed, words_in}
-use Rattle.node_code.proofs.Public.{part_left, part_right, waits_left, waits_right, words_are, fragment, weaker, more_room, moved, two_legs}
+use Rattle.node_code.proofs.Public.{pieces_close, part_left, part_right, waits_left, waits_right, words_are, fragment, weaker, more_room, moved, two_legs}
 use Rattle.thread_code.specs.Plans.{Plan, Thread, IsNodeOf, IsPlan, IsThread}
 use Rattle.thread_code.specs.NodeCodeEffects.{Places}
-use Rattle.rv64_codegen.specs.ThreadPieces.{Choices, AreChoices, IsGuarded, GoesTo, IsChoosing, turned, straight, IsDoing}
+use Rattle.ido_base.specs.declared.place.Place.{Place}
+use Rattle.ido_ints.specs.declared.kinds.Kind.{Kind}
+use Rattle.c_tree.specs.Exprs as e
+use Rattle.rv64_codegen.specs.ThreadPieces.{Choices, AreChoices, IsGuard, IsGuarded, IsComputedBefore, nothing, computed, GoesTo, IsChoosing, turned, straight}
+use Rattle.rv64_codegen.specs.ThreadPieces.{IsAssigning, IsSetting, in_register, in_section, outside, IsDoing}
 use Rattle.rv64_codegen.proofs.PieceSites.{IsLinkedIn, Spot, Spots, spot_site, IsSited, AgreesAt, bare, bare_meets}
 
 -- ---- A boundary is chosen or not
@@ -69,20 +73,40 @@ pub record PlacedNode (p : Plan) (t : Thread) (c : Choices) (entry : ℕ → ℕ
   pub before : List CodeItem
   pub does : List CodeItem
   pub goes : List CodeItem
-  pub guarded : IsGuarded p t c node before
+  pub guarded : IsGuarded p t c node is.action before
   pub doing : IsDoing p t c node is.action does goes
   pub sited : IsSited t program items n entry node (before ++ (does ++ goes))
 
 module _ (p : Plan) (t : Thread) (c : Choices) where
-  pub guarded_closed : (node : ℕ) (is : Node) (piece : List CodeItem) → NodeAt p.graph node is → IsGuarded p t c node piece → IsClosed piece
+  pub computing_closed : (node : ℕ) (a : Action) (piece : List CodeItem) → IsComputedBefore p t c node a piece → IsClosed piece
+  computing_closed node a piece (nothing none empty) = subst (λ (xs : List CodeItem). IsClosed xs) (sym empty) nothing_closed
+  computing_closed node a piece (computed logged place local kind value next same prep) = prep.closed
+
+  guard_closed : (node : ℕ) (a : Action) (piece : List CodeItem) → IsGuard p t c node a piece → IsClosed piece
+  guard_closed node a piece g =
+      subst (λ (xs : List CodeItem). IsClosed xs) (sym g.split)
+      (pieces_close g.computing g.keeping (computing_closed node a g.computing g.computes) (g.keeps []).closed)
+
+  pub guarded_closed : (node : ℕ) (is : Node) (piece : List CodeItem) → NodeAt p.graph node is → IsGuarded p t c node is.action piece → IsClosed piece
   guarded_closed node is piece at g = by (chosen_or_not p.graph p.boundaries node is at)
     where
       by : IsChosen p.graph p.boundaries node ⊎ (IsChosen p.graph p.boundaries node → ⊥) → IsClosed piece
-      by (inl chosen) = (g.chosen chosen []).closed
+      by (inl chosen) = guard_closed node is.action piece (g.chosen chosen)
       by (inr plain) = subst (λ (xs : List CodeItem). IsClosed xs) (sym (g.plain plain)) nothing_closed
 
+  setting_closed : (node : ℕ) (place : Place) (local : ℕ) (kind : Kind) (value : e.Expr) (does : List CodeItem) →
+      IsSetting p t c node place local kind value does → IsClosed does
+  setting_closed node place local kind value does (in_register register home d) = d.closed
+  setting_closed node place local kind value does (in_section word home is d) = d.closed
+  setting_closed node place local kind value does (outside word home none d) = d.closed
+
+  assigning_closed : (node : ℕ) (target : e.Lvalue) (value : e.Expr) (does : List CodeItem) → IsAssigning p t c node target value does → IsClosed does
+  assigning_closed node (e.ToLocal place local kind) value does d = setting_closed node place local kind value does d
+  assigning_closed node (e.ToVariable place variable kind) value does d = d.closed
+  assigning_closed node (e.ToElement place variable kind index) value does d = d.closed
+
   pub does_closed : (node : ℕ) (a : Action) (does goes : List CodeItem) → IsDoing p t c node a does goes → IsClosed does
-  does_closed node (Eval target value next) does goes d = d.0.closed
+  does_closed node (Eval target value next) does goes d = assigning_closed node target value.expr does d.0
   does_closed node (Store variable kind next) does goes d = d.0.closed
   does_closed node (Test condition holds fails) does goes d = by d
     where
@@ -155,8 +179,27 @@ module _ {p : Plan} {t : Thread} {c : Choices} {entry : ℕ → ℕ} (it : Place
   call_of (Unlock lock next) d = ((d.0.1 []).at does_bare).call
   call_of End d = (d.0.at does_bare).call
 
+  -- where the store of an assignment outside sections stands, else where what the node does begins
+  abbrev pub setting_store : {place : Place} → {local : ℕ} → {kind : Kind} → {value : e.Expr} → IsSetting p t c node place local kind value does → ℕ
+  setting_store (in_register register home d) = to does_at
+  setting_store (in_section word home is d) = to does_at
+  setting_store (outside word home none d) = (d.at does_bare).store
+
+  abbrev pub assigning_store : (target : e.Lvalue) → (value : e.Expr) → IsAssigning p t c node target value does → ℕ
+  assigning_store (e.ToLocal place local kind) value d = setting_store d
+  assigning_store (e.ToVariable place variable kind) value d = to does_at
+  assigning_store (e.ToElement place variable kind index) value d = to does_at
+
+  abbrev pub store_of : (b : Action) → IsDoing p t c node b does goes → ℕ
+  store_of (Eval target value next) d = assigning_store target value.expr d.0
+  store_of (Store variable kind next) d = to does_at
+  store_of (Test condition holds fails) d = to does_at
+  store_of (Lock lock next) d = to does_at
+  store_of (Unlock lock next) d = to does_at
+  store_of End d = to does_at
+
   abbrev pub spots_in : Spots
-  spots_in = record { core = to does_at; call = call_of is.action doing; after = to goes_at }
+  spots_in = record { core = to does_at; call = call_of is.action doing; after = to goes_at; store = store_of is.action doing }
 
   pub ends : to (goes_at + length goes) ≡ entry (node + 1)
   ends =
@@ -221,17 +264,23 @@ module _ {p : Plan} {t : Thread} {c : Choices} {entry : ℕ → ℕ} (it : Place
         more_room s x (to goes_at) (entry next) goes_words (words - least) [] (λ y. y ≡ x) (omega (arith, all_words, some))
         (goes_leg next of_next g s meets x)
 
+    -- the last of what the node does, and on to the next
+    pub then_goes : (next : ℕ) → IsNodeOf t next → GoesTo p t c node next goes → (s : MarkedEnvironment) → Meets program s →
+        (x : List ℕ) (from : ℕ) (ss : List Observation) (P : List ℕ → Type 0) → GoesThrough s (fragment x from (to goes_at) does_words) ss P →
+        GoesThrough s (fragment x from (entry next) words) ss P
+    then_goes next of_next g s meets x from ss P leg =
+        more_room s x from (entry next) (does_words + goes_words) words ss P (omega (arith, all_words))
+        (subst (λ (ts : List Observation). GoesThrough s (fragment x from (entry next) (does_words + goes_words)) ts P) (append-nil ss)
+        (two_legs s x from (to goes_at) (entry next) does_words goes_words ss [] P P leg
+        (λ y h. weaker s (fragment y (to goes_at) (entry next) goes_words) [] (λ z. z ≡ y) P (λ z same. subst P (sym same) h)
+        (goes_leg next of_next g s meets y))))
+
     -- what the node does, and on to the next
     pub then_next : (next : ℕ) → IsNodeOf t next → GoesTo p t c node next goes → (s : MarkedEnvironment) → Meets program s →
         (x : List ℕ) (ss : List Observation)
         (P : List ℕ → Type 0) → GoesThrough s (fragment x (to does_at) (to goes_at) does_words) ss P →
         GoesThrough s (fragment x (to does_at) (entry next) words) ss P
-    then_next next of_next g s meets x ss P leg =
-        more_room s x (to does_at) (entry next) (does_words + goes_words) words ss P (omega (arith, all_words))
-        (subst (λ (ts : List Observation). GoesThrough s (fragment x (to does_at) (entry next) (does_words + goes_words)) ts P) (append-nil ss)
-        (two_legs s x (to does_at) (to goes_at) (entry next) does_words goes_words ss [] P P leg
-        (λ y h. weaker s (fragment y (to goes_at) (entry next) goes_words) [] (λ z. z ≡ y) P (λ z same. subst P (sym same) h)
-        (goes_leg next of_next g s meets y))))
+    then_next next of_next g s meets x ss P leg = then_goes next of_next g s meets x (to does_at) ss P leg
 
 -- it is a node of a plan's thread, whose places have its addresses
 pub record HasPlaces {p : Plan} {t : Thread} {c : Choices} (places : Places) (it : PlacedNode p t c places.entry) : Type 0 where
@@ -239,4 +288,4 @@ pub record HasPlaces {p : Plan} {t : Thread} {c : Choices} (places : Places) (it
   pub of : IsThread p t
   pub choices : AreChoices p t c
   pub own : IsNodeOf t it.node
-  pub agrees : AgreesAt places it.program c.live c.cleans it.node (spots_in it)
+  pub agrees : AgreesAt places it.program c.live c.kept c.cleans it.node (spots_in it)

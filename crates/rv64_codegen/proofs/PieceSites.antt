@@ -58,20 +58,23 @@ site_in t program items n entry node piece sited s meets = record {
   closed = sited.closed;
 }
 
--- addresses within a node's code, where it has them: of what it does, of its call, and where it is gone on with after that
+-- addresses within a node's code, where it has them: of what it does, of its call, where it is gone on with after that, and of a store that is no mark
 pub record Spots : Type 0 where
   pub core : ℕ
   pub call : ℕ
   pub after : ℕ
+  pub store : ℕ
 
 -- the thread's places have these at the node
-pub record AgreesAt (places : Places) (program : Program) (kept : ℕ → List ℕ) (cleaned : ℕ → Bool) (node : ℕ) (spots : Spots) : Type 0 where
+pub record AgreesAt (places : Places) (program : Program) (live kept : ℕ → List ℕ) (cleaned : ℕ → Bool) (node : ℕ) (spots : Spots) : Type 0 where
   pub of_program : places.program ≡ program
   pub core : places.core node ≡ spots.core
   pub call : places.call node ≡ spots.call
   pub after : places.after node ≡ spots.after
+  pub store : places.store node ≡ spots.store
   pub words : places.entry (node + 1) ≡ places.entry node + 4 * places.words node
-  pub live : (other : ℕ) → places.live other ≡ kept other
+  pub live_are : (other : ℕ) → places.live other ≡ live other
+  pub kept_are : (other : ℕ) → places.kept other ≡ kept other
   pub cleans : places.cleans node ≡ cleaned node
 
 -- ---- An environment of a program, in which no load is answered

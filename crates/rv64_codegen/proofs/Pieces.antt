@@ -1,5 +1,5 @@
 -- Evaluations and tests as pieces of a thread's code.
-use Rattle.std.proofs.Common.{◌≡◌, ℕ, ◌+◌, ◌*◌, ◌≤◌, List, [], ◌∷◌, length, refl, ap, sym, ◌∙◌, arith, subst, Bool, true, false, if◌then◌else◌}
+use Rattle.std.proofs.Common.{◌≡◌, ℕ, ◌+◌, ◌*◌, ◌<◌, ◌≤◌, ◌^◌, List, [], ◌∷◌, length, refl, ap, sym, ◌∙◌, arith, subst, Bool, true, false, if◌then◌else◌}
 use Rattle.std.specs.Prelude.{not, map, sum_by}
 use Rattle.std.proofs.lemmas.List.Sums.{sum_by-cons}
 use Rattle.ido_ints.specs.Operators.{is_zero}
@@ -15,14 +15,15 @@ use Rattle.rv64_link.specs.LabelledCode.{most_words_of, fences_of, fences_in}
 use Rattle.memory_layout.specs.Roles.{is_temporary}
 use Rattle.operator_code.specs.declared.branches.Test.{Test}
 use Rattle.operator_code.specs.ComputingCode.{AreRegisters, passes}
-use Rattle.code_runs.specs.ComputingRuns.{config}
-use Rattle.code_runs.specs.CodeTraces.{Mark}
+use Rattle.code_runs.specs.ComputingRuns.{Environment, HasCodeAt, config}
+use Rattle.code_runs.specs.CodeTraces.{Mark, Observation}
 use Rattle.expr_code.specs.EvaluationCode.{Homes, Source, EvaluationEnds, IsTestCode, impure_of, impure_among}
 use Rattle.node_code.specs.Sites.{Site, begin_of, end_of, label_of}
-use Rattle.node_code.specs.Pieces.{IsComputing, Computes, IsChoice, Chooses, PieceLeads, words_in}
+use Rattle.node_code.specs.Pieces.{Computed, IsChoice, Chooses, IsComputing, IsPlainWrite, IsUnmarked, PieceLeads, words_in}
 use Rattle.node_code.specs.Cleans.{cleans_of, cleans_in}
 use Rattle.node_code.proofs.Public.{cleans_cons, fragment, weaker}
-use Rattle.rv64_codegen.specs.Evaluations.{MayReach, MayEvaluate, may_write, Has, IsAssigned, IsEvaluation, IsTest, IsTested, is_taken, target_nodes}
+use Rattle.rv64_codegen.specs.Evaluations.{MayReach, MayEvaluate, may_write, Has, IsAssigned, IsEvaluation, IsPlainAssignment, IsPreparation, IsTest}
+use Rattle.rv64_codegen.specs.Evaluations.{IsTested, is_taken}
 use Rattle.rv64_codegen.specs.links.Targets.{IsSelected, IsTurned}
 
 -- pure code has no FENCE
@@ -77,32 +78,88 @@ no_cleans (i ∷ is) h =
     let sum = cleans_cons (Instruction i) (map Instruction is) in
     omega (arith, h, all, here, rest, sum)
 
-pub is_evaluation : (h : Homes) (target : e.Lvalue) (t : e.Expr) (code : List Instr) (piece : List CodeItem) → IsSelected h target t code →
-    IsComputing code piece → IsEvaluation h target t piece
-is_evaluation h target t code piece sel comp = record {
-  closed = comp.closed;
-  few = let a : length code ≤ 16 * (target_nodes target + nodes_of t) + 16 = sel.short in
-      let b : sum_by most_words_of piece ≤ length code + 1 = comp.few in omega (arith, a, b);
-  fences = comp.fences ∙ no_fences code sel.pure;
-  cleans = comp.cleans ∙ no_cleans code sel.pure;
-  at = λ at. record {
-    evaluates = evaluates at (comp.at at);
-    marks = (comp.at at).marks;
-    resumes = (comp.at at).resumes;
-  };
-}
-  where
-    evaluates : (at : Site piece) → Computes code piece at → (s : Source) (x : List ℕ) → AreRegisters x → MayReach h s at.linking.environment.around x target →
-        MayEvaluate h s at.linking.environment.around x t →
-        PieceLeads at x (begin_of piece at) (end_of piece at) (Mark ∷ []) (IsAssigned h s target t x)
-    evaluates at c s x are reach may =
-        let b : ℕ = begin_of piece at in
-        let end : EvaluationEnds at.linking.environment.around code (may_write h target)
-        (λ y. Has h s y target (value s.locals s.numbers t)) (config x b) =
-        sel.does.ends s at.linking.environment.around (config x b) (record { registers = are; stands = c.stands; room = c.room }) reach may in
-        weaker at.linking.environment (fragment x b (end_of piece at) (words_in piece at)) (Mark ∷ []) (λ z. z ≡ end.registers) (IsAssigned h s target t x)
-        (λ z f. subst (λ (v : List ℕ). IsAssigned h s target t x v) (sym f) (record { are = end.are; unchanged = end.unchanged; has = end.has }))
-        (c.computes x end.registers (record { run = end.leads; short = end.short }))
+module _ (h : Homes) (target : e.Lvalue) (t : e.Expr) (code : List Instr) (sel : IsSelected h target t code) where
+  -- where the code stands its run leads to registers after the evaluation
+  record Ran (s : Source) (around : Environment) (address : ℕ) (x : List ℕ) : Type 0 where
+    registers : List ℕ
+    computed : Computed around code address x registers
+    assigned : IsAssigned h s target t x registers
+
+  run : (s : Source) (around : Environment) (address : ℕ) (x : List ℕ) → HasCodeAt around address code → address + 4 * length code < 2 ^ 64 → AreRegisters x →
+      MayReach h s around x target → MayEvaluate h s around x t → Ran s around address x
+  run s around address x stands room are reach may =
+      let end : EvaluationEnds around code (may_write h target) (λ y. Has h s y target (value s.locals s.numbers t)) (config x address) =
+      sel.does.ends s around (config x address) (record { registers = are; stands = stands; room = room }) reach may in
+      record {
+        registers = end.registers;
+        computed = record { run = end.leads; short = end.short };
+        assigned = record { are = end.are; unchanged = end.unchanged; has = end.has };
+      }
+
+  -- where the code leads from registers to others, these are those after the evaluation
+  leads_by : {piece : List CodeItem} (at : Site piece) (s : Source) (x : List ℕ) (from to : ℕ) (ss : List Observation)
+      (r : Ran s at.linking.environment.around from x) → PieceLeads at x from to ss (λ z. z ≡ r.registers) →
+      PieceLeads at x from to ss (IsAssigned h s target t x)
+  leads_by {piece} at s x from to ss r leg =
+      weaker at.linking.environment (fragment x from to (words_in piece at)) ss (λ z. z ≡ r.registers) (IsAssigned h s target t x)
+      (λ z f. subst (λ (v : List ℕ). IsAssigned h s target t x v) (sym f) r.assigned) leg
+
+  pub is_evaluation : (piece : List CodeItem) → IsComputing code piece → IsEvaluation h target t piece
+  is_evaluation piece comp = record {
+    closed = comp.closed;
+    few = omega (arith, sel.short, comp.few);
+    fences = comp.fences ∙ no_fences code sel.pure;
+    cleans = comp.cleans ∙ no_cleans code sel.pure;
+    at = λ at.
+        let c = comp.at at in
+        record {
+          evaluates = λ s x are reach may.
+              let r = run s at.linking.environment.around (begin_of piece at) x c.stands c.room are reach may in
+              leads_by at s x (begin_of piece at) (end_of piece at) (Mark ∷ []) r (c.computes x r.registers r.computed);
+          marks = c.marks;
+          resumes = c.resumes;
+        };
+  }
+
+  pub is_preparation : (piece : List CodeItem) → IsUnmarked code piece → IsPreparation h target t piece
+  is_preparation piece comp = record {
+    closed = comp.closed;
+    few = omega (arith, sel.short, comp.few);
+    fences = comp.fences ∙ no_fences code sel.pure;
+    cleans = comp.cleans ∙ no_cleans code sel.pure;
+    at = λ at.
+        let c = comp.at at in
+        record {
+          prepares = λ s x are reach may.
+              let r = run s at.linking.environment.around (begin_of piece at) x c.stands c.room are reach may in
+              leads_by at s x (begin_of piece at) (end_of piece at) [] r (c.computes x r.registers r.computed);
+          marks = c.marks;
+          resumes = c.resumes;
+        };
+  }
+
+  pub is_plain_assignment : (piece : List CodeItem) → IsPlainWrite code piece → IsPlainAssignment h target t piece
+  is_plain_assignment piece comp = record {
+    closed = comp.closed;
+    few = omega (arith, sel.short, comp.few);
+    fences = comp.fences ∙ no_fences code sel.pure;
+    cleans = comp.cleans ∙ no_cleans code sel.pure;
+    at = λ at.
+        let c = comp.at at in
+        record {
+          store = c.store;
+          evaluates = λ s x are reach may.
+              let r = run s at.linking.environment.around (begin_of piece at) x c.has_code c.room are reach may in
+              leads_by at s x (begin_of piece at) c.store (Mark ∷ []) r (c.computes x r.registers r.computed);
+          stands = c.stands;
+          does = c.does;
+          stores = c.stores;
+          after = c.after;
+          plain = c.plain;
+          marks = c.marks;
+          resumes = c.resumes;
+        };
+  }
 
 turn : (turned z : Bool) → (if turned then not (not z) else not z) ≡ (if turned then z else not z)
 turn true true = refl

@@ -1,5 +1,6 @@
 -- What a plan says of a thread's nodes.
-use Rattle.std.proofs.Common.{◌≡◌, ⊎_elim, refl, ℕ, zero, suc, ◌+◌, ◌-◌, ◌*◌, ◌<◌, ◌≤◌, List, [], ◌∷◌, length, ◌∙◌, ap, ap₂, sym, subst, arith, Option, Some}
+use Rattle.std.proofs.Common.{◌≡◌, ◌⊎◌, inl, inr, ⊎_elim, refl, ℕ, zero, suc, ◌+◌, ◌-◌, ◌*◌, ◌<◌, ◌≤◌, List, [], ◌∷◌, length, ◌∙◌, ap, ap₂, sym, subst, arith}
+use Rattle.std.proofs.Common.{Option, Some}
 use Rattle.std.proofs.Common.{None, Bool, true, false, cond}
 use Rattle.std.specs.Prelude.{slice_get, slice_index_or, nat_lt, find, ℤ}
 use Rattle.std.specs.Option.{option_map}
@@ -7,7 +8,8 @@ use Rattle.std.proofs.lemmas.Option.{slice_get_within, get_or_from_slice_get}
 use Rattle.std.proofs.lemmas.List.Sums.{sum_by-cons}
 use Rattle.ido_base.specs.declared.location.Location.{Location}
 use Rattle.log_schemes.specs.declared.keeping.Keeping.TheVariants.{Masked}
-use Rattle.log_schemes.specs.Schemes.{keeping_of}
+use Rattle.log_schemes.specs.declared.locals.Locals.TheVariants.{Registers, Frame}
+use Rattle.log_schemes.specs.Schemes.{keeping_of, locals_of}
 use Rattle.ido_base.specs.declared.limits.TheConstants.{MOST_PRICE, MOST_THREADS}
 use Rattle.c_tree.specs.Exprs as e
 use Rattle.c_tree.specs.Flats as f
@@ -27,7 +29,7 @@ use Rattle.flow_graph.specs.IdempotentCuts.{IsChosen, Writes}
 use Rattle.flow_graph.specs.Liveness.{NodeAt}
 use Rattle.flow_graph.specs.Lowering.{table_of, assign_count, count, statements_count, arms_count, thread_count, thread_nodes, threads_nodes, part, parts}
 use Rattle.flow_graph.proofs.Public.{length-thread_nodes, all_at, found_in, lowered_nodes, lowered_threads, ShapedAs, node_shaped}
-use Rattle.thread_code.specs.Plans.{Plan, Thread, IsPlan, IsThread, IsNodeOf, language_of, locks_before, locks_held, names_in, set_before}
+use Rattle.thread_code.specs.Plans.{Assigns, Plan, Thread, IsPlan, IsThread, IsNodeOf, language_of, locks_before, locks_held, names_in, set_before}
 use Rattle.thread_code.proofs.Public.{names_are, plain_before}
 use Rattle.thread_code.specs.Programs.{action_nodes}
 use Rattle.rv64_codegen.proofs.LoweredNodes.{price_of, prices, price_thread, IsLoweredNode, sound_thread, sound_at, part_is, node_of_thread}
@@ -142,8 +144,16 @@ module _ (p : Plan) (plan : IsPlan p) where
       subst P same (writes_by (threads_nodes p.flat p.flat.threads 0) w.is w.is.action w.written
       (node_shaped p.flat node w.is (node_there node w.is w.at)) w.writes)
 
-  pub chosen_stores : (node : ℕ) (is : Node) → NodeAt p.graph node is → IsChosen p.graph p.boundaries node → IsStoring is.action
-  chosen_stores node is at c = ⊎_elim (λ u. absurd (c.free u)) (λ w. writes_here node is at w) (plan.at_writes.before node c.stands)
+  -- a node before which a boundary stands by choice makes a store or, where locals stand in the frame, assigns one
+  pub chosen_writes : (node : ℕ) (is : Node) → NodeAt p.graph node is → IsChosen p.graph p.boundaries node →
+      IsStoring is.action ⊎ ((locals_of p.log ≡ Frame) × ((local : ℕ) × Assigns p node local))
+  chosen_writes node is at c =
+      ⊎_elim (λ u. absurd (c.free u)) (λ rest. ⊎_elim (λ w. inl (writes_here node is at w)) (λ a. inr (a.logged.frame, (a.logged.local, a.logged.assigns))) rest) (plan.at_writes.before node c.stands)
+
+  -- where locals stand in registers it makes a store
+  pub chosen_stores : locals_of p.log ≡ Registers → (node : ℕ) (is : Node) → NodeAt p.graph node is → IsChosen p.graph p.boundaries node → IsStoring is.action
+  chosen_stores registers node is at c =
+      ⊎_elim (λ s. s) (λ f. absurd (let both : Registers ≡ Frame = sym registers ∙ f.0 in let z : ⊥ = cc in z)) (chosen_writes node is at c)
 
   -- ---- Nodes of a thread
 

@@ -79,11 +79,11 @@ module _ (q : Plan) (plan : IsPlan q) where
   of_number : (number : ℕ) (here : Part) → slice_get q.graph.threads number ≡ Some here → (t : Thread) × IsThread q t × (t.part ≡ here)
   of_number number here at =
       let colours = found_in q.colours number (omega (arith, slice_get_within q.graph.threads number here at, plan.registers.threads)) in
-      let locals : List Home = map home_of_colour colours.0 in (
+      let locals : List Home = map (home_of_colour q.log number) colours.0 in (
         made number here locals,
         is_thread number here locals at (λ others g.
             let same : colours.0 ≡ others = (let both : Some colours.0 ≡ Some others = sym colours.1 ∙ g in cc) in
-            ap (λ (cs : List ℕ). map home_of_colour cs) same),
+            ap (λ (cs : List ℕ). map (home_of_colour q.log number) cs) same),
         refl,
       )
 

@@ -1,5 +1,5 @@
 -- Locals that expressions read.
-use Rattle.std.proofs.Common.{◌≡◌, ℕ, ◌<◌, List, [], ◌∷◌, ◌++◌, length, refl, arith, Some}
+use Rattle.std.proofs.Common.{◌≡◌, ℕ, ◌<◌, List, [], ◌∷◌, ◌++◌, length, refl, arith, Option, Some}
 use Rattle.std.specs.Prelude.{slice_get, Contains}
 use Rattle.std.proofs.lemmas.Option.{slice_get_within}
 use Rattle.std.proofs.lemmas.List.Elements.{Contains-append_left, Contains-append_right}
@@ -18,36 +18,38 @@ use Rattle.rv64_codegen.specs.Locals.{HoldsEach, HoldsLive, HasHomes}
 only : (local : ℕ) → Contains (local ∷ []) local
 only local = (0, omega arith, refl)
 
-pub left_held : (h : Homes) (s : Source) (x : List ℕ) (a b : List ℕ) → HoldsEach h s x (a ++ b) → HoldsEach h s x a
-left_held h s x a b held local k c f = held local k (Contains-append_left a b local c) f
+pub left_held : (h : Homes) (s : Source) (l : (address bytes : ℕ) → Option ℕ) (x : List ℕ) (a b : List ℕ) → HoldsEach h s l x (a ++ b) → HoldsEach h s l x a
+left_held h s l x a b held local k c f = held local k (Contains-append_left a b local c) f
 
-pub right_held : (h : Homes) (s : Source) (x : List ℕ) (a b : List ℕ) → HoldsEach h s x (a ++ b) → HoldsEach h s x b
-right_held h s x a b held local k c f = held local k (Contains-append_right a b local c) f
+pub right_held : (h : Homes) (s : Source) (l : (address bytes : ℕ) → Option ℕ) (x : List ℕ) (a b : List ℕ) → HoldsEach h s l x (a ++ b) → HoldsEach h s l x b
+right_held h s l x a b held local k c f = held local k (Contains-append_right a b local c) f
 
-pub reads_are_held : (h : Homes) (s : Source) (x : List ℕ) (t : e.Expr) → IsExpr s.variables s.kinds t → HoldsEach h s x (expr_locals t) → HoldsLocals h s x t
-reads_are_held h s x (e.Constant value) f held = tt
-reads_are_held h s x (e.Local local k) f held = held local k (only local) f
-reads_are_held h s x (e.Variable place variable k) f held = tt
-reads_are_held h s x (e.Element place variable k index_place index) f held = reads_are_held h s x index f.1 held
-reads_are_held h s x (e.Address variable index_place index) f held = reads_are_held h s x index f.1 held
-reads_are_held h s x (e.Referent place last local) f held = held local UnsignedLong (only local) f
-reads_are_held h s x (e.Unary operator t) f held = reads_are_held h s x t f held
-reads_are_held h s x (e.Cast k t) f held = reads_are_held h s x t f held
-reads_are_held h s x (e.Converted k t) f held = reads_are_held h s x t f held
-reads_are_held h s x (e.Binary operator t u) f held = (
-  reads_are_held h s x t f.0 (left_held h s x (expr_locals t) (expr_locals u) held),
-  reads_are_held h s x u f.1 (right_held h s x (expr_locals t) (expr_locals u) held),
+pub reads_are_held : (h : Homes) (s : Source) (l : (address bytes : ℕ) → Option ℕ) (x : List ℕ) (t : e.Expr) → IsExpr s.variables s.kinds t →
+    HoldsEach h s l x (expr_locals t) → HoldsLocals h s l x t
+reads_are_held h s l x (e.Constant value) f held = tt
+reads_are_held h s l x (e.Local local k) f held = held local k (only local) f
+reads_are_held h s l x (e.Variable place variable k) f held = tt
+reads_are_held h s l x (e.Element place variable k index_place index) f held = reads_are_held h s l x index f.1 held
+reads_are_held h s l x (e.Address variable index_place index) f held = reads_are_held h s l x index f.1 held
+reads_are_held h s l x (e.Referent place last local) f held = held local UnsignedLong (only local) f
+reads_are_held h s l x (e.Unary operator t) f held = reads_are_held h s l x t f held
+reads_are_held h s l x (e.Cast k t) f held = reads_are_held h s l x t f held
+reads_are_held h s l x (e.Converted k t) f held = reads_are_held h s l x t f held
+reads_are_held h s l x (e.Binary operator t u) f held = (
+  reads_are_held h s l x t f.0 (left_held h s l x (expr_locals t) (expr_locals u) held),
+  reads_are_held h s l x u f.1 (right_held h s l x (expr_locals t) (expr_locals u) held),
 )
-reads_are_held h s x (e.Conditional k t u v) f held =
-    let first : HoldsEach h s x (expr_locals t ++ expr_locals u) = left_held h s x (expr_locals t ++ expr_locals u) (expr_locals v) held in (
-      reads_are_held h s x t f.0 (left_held h s x (expr_locals t) (expr_locals u) first),
-      reads_are_held h s x u f.1 (right_held h s x (expr_locals t) (expr_locals u) first),
-      reads_are_held h s x v f.2 (right_held h s x (expr_locals t ++ expr_locals u) (expr_locals v) held),
+reads_are_held h s l x (e.Conditional k t u v) f held =
+    let first : HoldsEach h s l x (expr_locals t ++ expr_locals u) = left_held h s l x (expr_locals t ++ expr_locals u) (expr_locals v) held in (
+      reads_are_held h s l x t f.0 (left_held h s l x (expr_locals t) (expr_locals u) first),
+      reads_are_held h s l x u f.1 (right_held h s l x (expr_locals t) (expr_locals u) first),
+      reads_are_held h s l x v f.2 (right_held h s l x (expr_locals t ++ expr_locals u) (expr_locals v) held),
     )
 
-pub live_is_enough : (g : Graph) (node : ℕ) (is : Node) (h : Homes) (s : Source) (x : List ℕ) → NodeAt g node is → HoldsLive g node h s x →
-    HoldsEach h s x is.uses
-live_is_enough g node is h s x at live local k c f = live local k (is_read is at c) f
+pub live_is_enough : (g : Graph) (node : ℕ) (is : Node) (h : Homes) (s : Source) (l : (address bytes : ℕ) → Option ℕ) (x : List ℕ) →
+    NodeAt g node is → HoldsLive g node h s l x →
+    HoldsEach h s l x is.uses
+live_is_enough g node is h s l x at live local k c f = live local k (is_read is at c) f
 
 -- ---- Homes
 

@@ -1,5 +1,5 @@
 -- What a caller knows of an expression of a thread: it is formed, and the locals that it reads stand in their homes.
-use Rattle.std.specs.Prelude.{◌≡◌, ℕ, ◌<◌, List, length, slice_get, slice_index_or, Contains, Some, true, pos}
+use Rattle.std.specs.Prelude.{◌≡◌, ℕ, ◌<◌, List, length, slice_get, slice_index_or, Contains, Option, Some, true, pos}
 use Rattle.ido_ints.specs.declared.kinds.Kind.{Kind}
 use Rattle.ido_ints.specs.TypedNumbers.{typed}
 use Rattle.c_tree.specs.Exprs as e
@@ -14,26 +14,28 @@ use Rattle.rv64_codegen.specs.Evaluations.{IsAtHome}
 -- ---- Locals that are read
 
 -- the local's home has its number
-abbrev pub IsHeld : Homes → Source → (registers : List ℕ) → (local : ℕ) → Kind → Type 0
-IsHeld h s x local k = HomeCarries x (home_of h.locals local) (typed k (slice_index_or s.locals local (pos 0)))
+abbrev pub IsHeld : Homes → Source → (loads : (address bytes : ℕ) → Option ℕ) → (registers : List ℕ) → (local : ℕ) → Kind → Type 0
+IsHeld h s l x local k = HomeCarries l x (home_of h.locals local) (typed k (slice_index_or s.locals local (pos 0)))
 
 -- each of these locals is in its home
-abbrev pub HoldsEach : Homes → Source → (registers : List ℕ) → List ℕ → Type 0
-HoldsEach h s x locals = (local : ℕ) (k : Kind) → Contains locals local → slice_get s.kinds local ≡ Some k → IsHeld h s x local k
+abbrev pub HoldsEach : Homes → Source → (loads : (address bytes : ℕ) → Option ℕ) → (registers : List ℕ) → List ℕ → Type 0
+HoldsEach h s l x locals = (local : ℕ) (k : Kind) → Contains locals local → slice_get s.kinds local ≡ Some k → IsHeld h s l x local k
 
 -- each local that is live at the node's entry is
-abbrev pub HoldsLive : Graph → (node : ℕ) → Homes → Source → (registers : List ℕ) → Type 0
-HoldsLive g node h s x = (local : ℕ) (k : Kind) → IsLive g local node → slice_get s.kinds local ≡ Some k → IsHeld h s x local k
+abbrev pub HoldsLive : Graph → (node : ℕ) → Homes → Source → (loads : (address bytes : ℕ) → Option ℕ) → (registers : List ℕ) → Type 0
+HoldsLive g node h s l x = (local : ℕ) (k : Kind) → IsLive g local node → slice_get s.kinds local ≡ Some k → IsHeld h s l x local k
 
 -- ---- Laws
 
--- registers that hold the locals that an expression reads are those with which its code may begin
+-- registers that hold the locals that an expression reads, or loads that are answered with them, are those with which its code may begin
 abbrev pub ReadsAreHeld : Type 0
-ReadsAreHeld = (h : Homes) (s : Source) (x : List ℕ) (t : e.Expr) → IsExpr s.variables s.kinds t → HoldsEach h s x (expr_locals t) → HoldsLocals h s x t
+ReadsAreHeld = (h : Homes) (s : Source) (l : (address bytes : ℕ) → Option ℕ) (x : List ℕ) (t : e.Expr) → IsExpr s.variables s.kinds t →
+    HoldsEach h s l x (expr_locals t) → HoldsLocals h s l x t
 
 -- what a node reads is held where all that is live is
 abbrev pub LiveIsEnough : Type 0
-LiveIsEnough = (g : Graph) (node : ℕ) (is : Node) (h : Homes) (s : Source) (x : List ℕ) → NodeAt g node is → HoldsLive g node h s x → HoldsEach h s x is.uses
+LiveIsEnough = (g : Graph) (node : ℕ) (is : Node) (h : Homes) (s : Source) (l : (address bytes : ℕ) → Option ℕ) (x : List ℕ) → NodeAt g node is →
+    HoldsLive g node h s l x → HoldsEach h s l x is.uses
 
 -- every variable has an address, and every local a home
 pub record HasHomes (vs : List p.Variable) (ks : List Kind) (h : Homes) : Type 0 where

@@ -1,5 +1,5 @@
--- Which lines the code of threads cleans, said of its items: at once after a store that of the store, where no later store of the region cleans it; outside
--- the code of boundaries no other.
+-- Which lines the code of threads cleans, said of its items: at once after a store that of the store, where no later store of the region cleans it, and
+-- after a logged assignment that of the local's word; outside the code of boundaries no other.
 use Rattle.std.specs.Prelude.{◌≡◌, ℕ, ◌+◌, ◌-◌, List, ◌∷◌, ◌++◌, length, map, slice_get, Some}
 use Rattle.ido_ints.specs.declared.kinds.Kind.{Kind}
 use Rattle.ido_ints.specs.Kinds.{bytes_of}
@@ -16,7 +16,7 @@ use Rattle.flow_graph.specs.OmittedCleans.{IsCleanedLater}
 use Rattle.flow_graph.specs.Liveness.{NodeAt}
 use Rattle.node_code.specs.Cleans.{cleans_in}
 use Rattle.node_code.specs.JoinedPieces.{joined, AreClosed}
-use Rattle.thread_code.specs.Plans.{Plan, Thread, IsThread}
+use Rattle.thread_code.specs.Plans.{Plan, Thread, IsThread, IsLogged}
 use Rattle.node_code.specs.BoundaryCode.{CleansInBoundary}
 
 module _ (p : Plan) (t : Thread) where
@@ -41,9 +41,20 @@ module _ (p : Plan) (t : Thread) where
     pub cleaned : ¬ (IsLeftOut node) → (rest : List CodeItem) × (after ≡ Instruction (CboClean pending_address) ∷ rest) × (cleans_in rest ≡ 0)
     pub left_out : IsLeftOut node → cleans_in after ≡ 0
 
+  -- The instruction at the mark of a logged assignment is the store of what is pending, followed at once by the clean of its line; outside the code of
+  -- boundaries none of the other items cleans a line.
+  pub record CleansLogged (items : List CodeItem) : Type 0 where
+    pub before : List CodeItem
+    pub width : StoreKind
+    pub after : List CodeItem
+    pub split : items ≡ before ++ (MarkNext ∷ Instruction (Stores width pending_value pending_address 0) ∷ Instruction (CboClean pending_address) ∷ after)
+    pub width_is : store_bytes width ≡ 8
+    pub earlier : CleansInBoundaries before
+    pub later : cleans_in after ≡ 0
+
   -- the items of a node
   abbrev pub CleansAsNode : (node : ℕ) → Action → List CodeItem → Type 0
-  CleansAsNode node (Eval target value next) items = CleansInBoundaries items
+  CleansAsNode node (Eval target value next) items = (IsLogged p t node → CleansLogged items) × (¬ (IsLogged p t node) → CleansInBoundaries items)
   CleansAsNode node (Store variable kind next) items = CleansStore node kind items
   CleansAsNode node (Test condition holds fails) items = CleansInBoundaries items
   CleansAsNode node (Lock lock next) items = CleansInBoundaries items

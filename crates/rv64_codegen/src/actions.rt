@@ -1,20 +1,21 @@
 //! What nodes do, and how they go on.
-ghost use Rattle.std.specs.Prelude.{◌≡◌, ◌==◌, ◌+◌, ◌≤◌, OnOk, length};
+ghost use Rattle.std.specs.Prelude.{◌≡◌, ◌==◌, ◌+◌, ◌≤◌, OnOk, length, false};
 ghost use Rattle.c_tree.specs.Exprs.{placed_of, lvalue_of, lock_name_of};
 ghost use Rattle.flow_graph.specs.Nodes.{Eval, Store, Test, Lock, Unlock, End, action_of};
 ghost use Rattle.node_code.specs.BoundaryCode.{IsQuiet};
 ghost use Rattle.node_code.specs.Pieces.{Appends, IsLockOf, IsUnlockOf, giving_bytes};
-ghost use Rattle.rv64_codegen.specs.links.Threads.{AppendsKept, DoesAction, DoesAt, GoesToNode, HasAction, IsOwn};
+ghost use Rattle.rv64_codegen.specs.links.Threads.{AppendsKept, DoesAction, DoesAt, GoesToNode, HasAction, IsOwn, opens_at};
 
-use crate::evaluations::push_evaluation;
+use crate::evaluations::{push_evaluation, target_code};
 use crate::numbers::call_code_of;
 use crate::tests_of_conditions::push_test;
 use crate::thread::ThreadPlan;
+use boundary_code::Written;
 use c_tree::expr::{LockName, Lvalue, Placed};
 use flow_graph::graph::Action;
 use ido_base::memory::OutOfMemory;
 use ido_ints::Kind;
-use node_code::{push_end, push_jump, push_lock, push_store, push_unlock};
+use node_code::{push_end, push_jump, push_lock, push_plain_write, push_store, push_unlock};
 use rv64_isa::instr::Instr;
 use rv64_isa::object::CodeItem;
 use std::alloc::Global;
@@ -42,7 +43,7 @@ fn push_fragment(
     push_jump(items, thread.label(next))
 }
 
-/// An evaluation.
+/// An evaluation. What a logged assignment stores is computed before its boundary; a local of the frame is stored outside sections too.
 fn push_eval(
     alloc: Global,
     items: &mut Vec<CodeItem>,
@@ -56,6 +57,15 @@ fn push_eval(
     ensures { OnOk result
         (Appends items.old.items items.new.items (DoesAction thread.now node (Eval (lvalue_of target.now) (placed_of value.now) next))) }
 {
+    if thread.is_logged(node) {
+        push_store(items, Kind::UnsignedLong, true)?;
+        return push_fragment(items, thread, node, next);
+    }
+    if thread.is_framed(target) {
+        let code = target_code(alloc, &thread.frame, target, value)?;
+        push_plain_write(items, &code)?;
+        return push_fragment(items, thread, node, next);
+    }
     push_evaluation(alloc, items, &thread.frame, target, value)?;
     push_fragment(items, thread, node, next)
 }
@@ -139,16 +149,23 @@ fn push_held_lock(
     alloc: Global,
     items: &mut Vec<CodeItem>,
     thread: &ThreadPlan,
+    node: usize,
     next: usize,
     numbering: &[Instr],
 ) -> Result<(), OutOfMemory>
+    requires here { IsOwn thread.now node }
     requires own { IsOwn thread.now next }
     requires some { 1 ≤ length numbering.now }
     requires quiet_number { IsQuiet numbering.now }
-    ensures { OnOk result (AppendsKept thread.now next items.old.items items.new.items (λ k. IsLockOf k numbering.now)) }
+    ensures { OnOk result
+        (AppendsKept thread.now next (opens_at thread.now node) items.old.items items.new.items (λ k. IsLockOf k numbering.now)) }
 {
     let numbers = thread.numbers(alloc, next)?;
-    let kept = thread.kept(next, &numbers);
+    let written = Written {
+        bytes: None,
+        opens: !thread.holds_some(node),
+    };
+    let kept = thread.kept(next, &numbers, thread.live_at(next), written);
     push_lock(alloc, items, &kept, numbering)
 }
 
@@ -165,7 +182,7 @@ fn push_taking(
     ensures { OnOk result (Appends items.old.items items.new.items (DoesAction thread.now node (Lock (lock_name_of lock.now) next))) }
 {
     let number = call_code_of(alloc, &thread.frame, lock.as_ref())?;
-    push_held_lock(alloc, items, thread, next, &number)?;
+    push_held_lock(alloc, items, thread, node, next, &number)?;
     push_fragment(items, thread, node, next)
 }
 
@@ -182,10 +199,10 @@ fn push_held_unlock(
     requires some { 1 ≤ length numbering.now }
     requires short { giving_bytes numbering.now ≤ 262144 }
     requires quiet_number { IsQuiet numbering.now }
-    ensures { OnOk result (AppendsKept thread.now next items.old.items items.new.items (λ k. IsUnlockOf k numbering.now)) }
+    ensures { OnOk result (AppendsKept thread.now next false items.old.items items.new.items (λ k. IsUnlockOf k numbering.now)) }
 {
     let numbers = thread.numbers(alloc, next)?;
-    let kept = thread.kept(next, &numbers);
+    let kept = thread.kept(next, &numbers, thread.live_at(next), Written::NOTHING);
     push_unlock(alloc, items, &kept, numbering)
 }
 

@@ -125,7 +125,12 @@ fn emit_thread(
     requires number { number < length plan.now.graph.now.threads.items }
     ensures { IfOk result (λ r. IsEmittedOf (plan_of plan.now) number r.items) }
 {
-    let homes = homes(alloc, &plan.colours.threads[number])?;
+    let homes = homes(
+        alloc,
+        plan.log,
+        number as u32,
+        &plan.colours.threads[number],
+    )?;
     let part = plan.graph.threads[number];
     let live = live_lists(alloc, plan, &homes, part)?;
     let text = &plan.flat.threads[number];

@@ -19,7 +19,7 @@ use rv64_isa::object::CodeItem;
 use std::alloc::Global;
 
 /// The code of an evaluation. It may be empty where a local takes what its register has.
-fn target_code(
+pub(crate) fn target_code(
     alloc: Global,
     frame: &Frame,
     target: &Lvalue,

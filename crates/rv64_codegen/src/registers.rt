@@ -1,5 +1,6 @@
 //! Homes of locals, and the registers that are live at nodes.
 ghost use Rattle.std.specs.Prelude.{◌≡◌, ◌↔◌, ◌<◌, ◌≤◌, ◌+◌, ℕ, length, map, slice_get, slice_index, Contains, IfOk, IsTrue, Some, true};
+ghost use Rattle.ido_base.specs.declared.limits.TheConstants.{MOST_THREADS};
 ghost use Rattle.memory_layout.specs.declared.roles.TheConstants.{LOCALS as local_numbers};
 ghost use Rattle.memory_layout.specs.Roles.{is_local};
 ghost use Rattle.flow_graph.specs.Nodes.{graph_of, node_of};
@@ -12,6 +13,9 @@ use flow_graph::graph::{Action, Node, Part};
 use flow_graph::live_sets::LiveSets;
 use ido_base::limits::LOCAL_REGISTERS;
 use ido_base::memory::OutOfMemory;
+use log_schemes::addresses::frame_at;
+use log_schemes::locals::Locals;
+use log_schemes::log::Log;
 use memory_layout::roles::LOCALS;
 use rv64_isa::field::Register;
 use std::alloc::Global;
@@ -25,23 +29,37 @@ fn local_register(number: usize) -> Register
     Register::new(LOCALS[number]).unwrap()
 }
 
-/// The home of the locals that have this colour.
-fn home_of_colour(colour: usize) -> Home
-    requires { colour < LOCAL_REGISTERS }
-    ensures { result ≡ home_of_colour colour }
+/// The home of the locals of a thread that have this colour.
+fn home_of_colour(log: Log, thread: u32, colour: usize) -> Home
+    requires thread { thread < MOST_THREADS }
+    requires colour { colour < LOCAL_REGISTERS }
+    ensures { result ≡ home_of_colour log thread colour }
 {
-    let register = local_register(colour);
-    Home::InRegister { register }
+    match log.locals() {
+        Locals::Registers => {
+            let register = local_register(colour);
+            Home::InRegister { register }
+        }
+        Locals::Frame => Home::InFrame {
+            address: frame_at(log, thread, colour as u32) as u32,
+        },
+    }
 }
 
 /// Where a thread's locals stand, which have these colours.
-pub(crate) fn homes(alloc: Global, colours: &[u8]) -> Result<Vec<Home>, OutOfMemory>
-    requires { (colour : ℕ) → Contains colours.now colour → colour < LOCAL_REGISTERS }
-    ensures { IfOk result (λ r. r.items ≡ map home_of_colour colours.now) }
+pub(crate) fn homes(
+    alloc: Global,
+    log: Log,
+    thread: u32,
+    colours: &[u8],
+) -> Result<Vec<Home>, OutOfMemory>
+    requires thread { thread < MOST_THREADS }
+    requires colours { (colour : ℕ) → Contains colours.now colour → colour < LOCAL_REGISTERS }
+    ensures { IfOk result (λ r. r.items ≡ map (home_of_colour log thread) colours.now) }
 {
     let mut homes = Vec::new(alloc);
     for colour in colours {
-        homes.push(home_of_colour(*colour as usize))?;
+        homes.push(home_of_colour(log, thread, *colour as usize))?;
     }
     Ok(homes)
 }

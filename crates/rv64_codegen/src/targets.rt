@@ -7,10 +7,11 @@ ghost use Rattle.expr_code.specs.EvaluationCode.{AreAtHome, home_of, homes_of, i
 ghost use Rattle.rv64_codegen.specs.links.Targets.{IsSelected};
 
 use c_tree::expr::Placed;
-use expr_code::{Frame, select_converted, select_element_address, select_variable_address};
+use expr_code::{Frame, Home, select_converted, select_element_address, select_variable_address};
 use ido_base::memory::OutOfMemory;
 use ido_base::place::Place;
 use ido_ints::Kind;
+use operator_code::constant::constant;
 use rv64_isa::field::Register;
 use rv64_isa::instr::Instr;
 use std::alloc::Global;
@@ -53,9 +54,18 @@ pub(crate) fn local_code(
     requires price { node_price (nodes_of (expr_of value.now.expr)) ≤ MOST_PRICE }
     ensures { IfOk result (λ code. IsSelected (homes_of frame.now) (ToLocal place local kind) (expr_of value.now.expr) code.items) }
 {
-    let register = frame.locals[local as usize].register();
-    let code = select_converted(alloc, &value.expr, kind, frame, register)?;
-    Ok(code)
+    match frame.locals[local as usize] {
+        Home::InRegister { register } => {
+            let code = select_converted(alloc, &value.expr, kind, frame, register)?;
+            Ok(code)
+        }
+        Home::InFrame { address } => {
+            let first = constant(alloc, PENDING_ADDRESS, u64::from(address))?;
+            let second = select_converted(alloc, &value.expr, kind, frame, PENDING_VALUE)?;
+            let whole = joined(first, &second)?;
+            Ok(whole)
+        }
+    }
 }
 
 /// x28 takes the address of a variable that is no array, and x29 the value.

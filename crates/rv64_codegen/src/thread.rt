@@ -1,17 +1,23 @@
 //! A thread whose code is made.
-ghost use Rattle.std.specs.Prelude.{◌≡◌, ◌<◌, ◌-◌, IfOk};
+ghost use Rattle.std.specs.Prelude.{◌≡◌, ◌<◌, ◌-◌, IfOk, not};
 ghost use Rattle.lock_discipline.specs.Masks.{mask_of};
 ghost use Rattle.boundary_code.specs.Boundaries.{lists_of};
 ghost use Rattle.log_schemes.specs.declared.keeping.Keeping.TheVariants.{Listed, Masked};
 ghost use Rattle.log_schemes.specs.Schemes.{keeping_of};
 ghost use Rattle.thread_code.specs.Plans.{set_before};
-ghost use Rattle.rv64_codegen.specs.links.Threads.{IsOwn, IsKeptFor, AreLocksAt, AreNumbersOf, plan_in, thread_of};
+ghost use Rattle.c_tree.specs.Exprs.{lvalue_of};
+ghost use Rattle.flow_graph.specs.Nodes.{action_of};
+ghost use Rattle.expr_code.specs.EvaluationCode.{homes_of};
+ghost use Rattle.rv64_codegen.specs.Evaluations.{IsAtHome};
+ghost use Rattle.rv64_codegen.specs.links.Threads.{IsOwn, IsKeptFor, IsTargetHome, AreLocksAt, AreNumbersOf, choices_of, is_framed, is_logged};
+ghost use Rattle.rv64_codegen.specs.links.Threads.{opens_at, plan_in, sets_framed, thread_of};
 
 use crate::numbers::held_numbers;
 use crate::plan::Plan;
-use c_tree::expr::LockRef;
-use expr_code::Frame;
-use flow_graph::graph::Part;
+use boundary_code::Written;
+use c_tree::expr::{LockRef, Lvalue};
+use expr_code::{Frame, Home};
+use flow_graph::graph::{Action, Part};
 use ido_base::memory::OutOfMemory;
 use lock_discipline::mask_of;
 use log_schemes::addresses::log_of;
@@ -95,18 +101,75 @@ impl ThreadPlan<'_, '_> {
         }
     }
 
-    /// What a boundary keeps that lets the thread go on at a node, where these are the codes of the locks held there.
-    pub(crate) fn kept<'k>(&'k self, node: usize, numbers: &'k [Vec<Instr>]) -> Kept<'k>
+    /// The registers that are live at a node's entry.
+    pub(crate) fn live_at(&self, node: usize) -> &[Register]
+        requires { IsOwn self.now node }
+        ensures { result.now ≡ (choices_of self.now).live node }
+    {
+        &self.live[node - self.part.first]
+    }
+
+    /// What a boundary keeps that lets the thread go on at a node, or at its core: these registers, and what it tells, where these are the codes of the locks
+    /// held there.
+    pub(crate) fn kept<'k>(
+        &'k self,
+        node: usize,
+        numbers: &'k [Vec<Instr>],
+        live: &'k [Register],
+        written: Written,
+    ) -> Kept<'k>
         requires own { IsOwn self.now node }
         requires numbers { AreNumbersOf self.now node (lists_of numbers.now) }
-        ensures { IsKeptFor self.now node result }
+        ensures { IsKeptFor self.now node live.now written result }
     {
-        let step = node - self.part.first;
         Kept {
             log: self.plan.log,
             thread: self.number,
             locks: self.locks(node, numbers),
-            live: &self.live[step],
+            live,
+            written,
         }
+    }
+
+    /// Whether the thread holds a lock before the node.
+    pub(crate) fn holds_some(&self, node: usize) -> bool
+        requires { IsOwn self.now node }
+        ensures { result ≡ not (opens_at self.now node) }
+    {
+        let step = node - self.part.first;
+        self.plan.held.count(self.number, step as u32) != 0
+    }
+
+    /// Whether the target is a local that stands in the frame.
+    pub(crate) fn is_framed(&self, target: &Lvalue) -> bool
+        requires { IsAtHome (homes_of self.now.frame) (lvalue_of target.now) }
+        ensures { result ≡ is_framed self.now.frame.locals.now (lvalue_of target.now) }
+    {
+        match target {
+            Lvalue::Local { local, .. } => match self.frame.locals[*local as usize] {
+                Home::InRegister { .. } => false,
+                Home::InFrame { .. } => true,
+            },
+            _ => false,
+        }
+    }
+
+    /// Whether the action assigns a local that stands in the frame.
+    fn sets_framed(&self, action: Action) -> bool
+        requires { IsTargetHome (homes_of self.now.frame) (action_of action) }
+        ensures { result ≡ sets_framed self.now.frame.locals.now (action_of action.entry) }
+    {
+        match action {
+            Action::Eval { target, .. } => self.is_framed(target),
+            _ => false,
+        }
+    }
+
+    /// Whether the node is a logged assignment: of a local that stands in the frame, where a lock is held.
+    pub(crate) fn is_logged(&self, node: usize) -> bool
+        requires { IsOwn self.now node }
+        ensures { result ≡ is_logged self.now node }
+    {
+        self.sets_framed(self.plan.graph.nodes[node].action) && self.holds_some(node)
     }
 }

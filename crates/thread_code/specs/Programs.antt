@@ -15,9 +15,9 @@ use Rattle.flow_graph.specs.Liveness.{NodeAt}
 use Rattle.rv64_link.specs.LabelledCode.{one_if}
 use Rattle.rv64_link.specs.LinkedCode.{IsInstructionAt, AreInstructions}
 use Rattle.code_runs.specs.CodeTraces.{Program, Meets, marked}
-use Rattle.thread_code.specs.Plans.{Plan, Thread, IsNodeOf, AreKept, held_names_before, hold_words}
-use Rattle.thread_code.specs.RegistersAtNodes.{IsAnswered, source_of}
-use Rattle.thread_code.specs.NodeCodeEffects.{Places, Entrance, EntersAt, Performs, BoundaryCode, GoesOnAfter}
+use Rattle.thread_code.specs.Plans.{Plan, Thread, IsLogged, IsNodeOf, AreKept, AreKeptBefore, held_names_before, hold_words}
+use Rattle.thread_code.specs.RegistersAtNodes.{IsFrameAnswered}
+use Rattle.thread_code.specs.NodeCodeEffects.{Places, Entrance, EntersAt, IsAnsweredAt, IsOwed, IsReadyAt, Performs, BoundaryAfter, BoundaryBefore, GoesOnAfter}
 
 -- expression nodes of a node, a target's index and a lock's key included
 abbrev pub target_nodes : e.Lvalue → ℕ
@@ -35,7 +35,7 @@ action_nodes End = 0
 
 -- the names whose locks a boundary of the node keeps: the one before a store, that of a lock or of an unlock
 abbrev pub names_kept : Plan → Thread → Action → (node : ℕ) → List LockName
-names_kept p t (Eval target value next) node = []
+names_kept p t (Eval target value next) node = held_names_before p t node
 names_kept p t (Store variable kind next) node = held_names_before p t node
 names_kept p t (Test condition holds fails) node = []
 names_kept p t (Lock lock next) node = held_names_before p t next
@@ -60,9 +60,9 @@ pub record IsOn (from to : ℕ) : Type 0 where
   pub words : ℕ
   pub is : to ≡ from + 4 * words
 
--- the ECALL of a node, and where it is gone on with, lie after the core and before the next node
+-- the ECALL of a node or the store of an assignment, and where it is gone on with, lie after the core and before the next node
 abbrev pub IsCallWithin : Places → Action → (node : ℕ) → Type 0
-IsCallWithin c (Eval target value next) node = Unit {0}
+IsCallWithin c (Eval target value next) node = IsOn (c.core node) (c.store node) × IsOn (c.store node + 4) (c.entry (node + 1))
 IsCallWithin c (Store variable kind next) node = Unit {0}
 IsCallWithin c (Test condition holds fails) node = Unit {0}
 IsCallWithin c (Lock lock next) node = IsOn (c.core node) (c.call node) × IsOn (c.call node + 4) (c.after node) × IsOn (c.after node) (c.entry (node + 1))
@@ -82,6 +82,12 @@ module _ (p : Plan) (t : Thread) (c : Places) where
     pub own : IsNodeOf t m.node
     pub enters : EntersAt p t c m m.node
 
+  -- the same past the boundary before the node
+  pub record IsAtOwnCore (m : Entrance) : Type 0 where
+    pub meets : Meets c.program m.environment
+    pub own : IsNodeOf t m.node
+    pub ready : IsReadyAt p t c m
+
   -- the ECALL of the node is no mark
   abbrev pub IsPlainCall : (node : ℕ) → Type 0
   IsPlainCall node = marked c.program.nodes (c.call node) ≡ []
@@ -93,7 +99,7 @@ module _ (p : Plan) (t : Thread) (c : Places) where
   IsCalling (Test condition holds fails) node = Unit {0}
   IsCalling (Lock lock next) node = IsInstructionAt c.program.start c.program.code (c.call node) Ecall × GoesOnAfter p t c node next ×
       ((m : Entrance) → Meets c.program m.environment → m.node ≡ node → EntersAt p t c m next →
-      BoundaryCode p t c m next (c.call node + 4) (c.after node) (c.after node))
+      IsFrameAnswered p t m.view next m.environment.around.loads → BoundaryAfter p t c m next)
   IsCalling (Unlock lock next) node =
       IsInstructionAt c.program.start c.program.code (c.call node) Ecall × GoesOnAfter p t c node next × (c.after node ≡ c.call node + 4)
       × IsPlainCall node
@@ -107,12 +113,12 @@ module _ (p : Plan) (t : Thread) (c : Places) where
   -- the code of one node
   pub record IsNodeCode (node : ℕ) (is : Node) : Type 0 where
     -- before the node's code stands a boundary or nothing
-    pub chosen : IsChosen p.graph p.boundaries node → (m : Entrance) → m.node ≡ node → IsAtOwnNode m →
-        BoundaryCode p t c m node (c.entry node) (c.core node) (c.core node)
+    pub chosen : IsChosen p.graph p.boundaries node → (m : Entrance) → m.node ≡ node → IsAtOwnNode m → IsAnsweredAt p t c m is.action → IsOwed p t c m is.action →
+        BoundaryBefore p t c m is.action
     pub plain : ¬ (IsChosen p.graph p.boundaries node) → c.entry node ≡ c.core node
-    -- the code does what the node does, where loads of what that reads are answered
-    pub performs : (m : Entrance) (effect : Effect) → m.node ≡ node → IsAtOwnNode m → IsAnswered (source_of p t m.seen) m.environment.around.loads is.action →
-        effect_of is.action m.seen ≡ Some effect → Performs p t c m effect
+    -- the code does what the node does, where loads of what that reads are answered; from its core on a logged assignment reads nothing
+    pub performs : (m : Entrance) (effect : Effect) → m.node ≡ node → IsAtOwnCore m → (¬ (IsLogged p t node) → IsAnsweredAt p t c m is.action) →
+        IsOwed p t c m is.action → effect_of is.action m.seen ≡ Some effect → Performs p t c m effect
     pub calls : IsCalling is.action node
     pub cleans : IsCleaning is.action node
     -- within its price, and what is paid for the locks that it keeps
@@ -137,7 +143,8 @@ pub record IsThreadCode (p : Plan) (t : Thread) (program : Program) : Type 0 whe
   pub ends : places.entry t.part.end ≡ program.start + 4 * length program.code
   pub follows : (node : ℕ) → IsNodeOf t node → places.entry (node + 1) ≡ places.entry node + 4 * places.words node
   pub code : (node : ℕ) (is : Node) → IsNodeOf t node → NodeAt p.graph node is → IsNodeCode p t places node is
-  pub kept : (node : ℕ) → IsNodeOf t node → AreKept p t node (places.live node)
+  pub live : (node : ℕ) → IsNodeOf t node → AreKept p t node (places.live node)
+  pub kept : (node : ℕ) → IsNodeOf t node → AreKeptBefore p t node (places.kept node)
   -- each node has one mark
   pub marks : (i : ℕ) (is : Node) → IsNodeOf t (t.part.first + i) → NodeAt p.graph (t.part.first + i) is →
       slice_get program.nodes i ≡ Some (mark_of places is.action (t.part.first + i))

@@ -5,7 +5,10 @@ use Rattle.std.proofs.Common.{None, eq-eqb, ◌==◌}
 use Rattle.std.specs.Prelude.{slice_get, Contains, ◌||◌, ℤ}
 use Rattle.std.specs.List.{list_any}
 use Rattle.ido_ints.specs.Operators.{is_zero}
+use Rattle.c_tree.specs.Exprs as e
 use Rattle.c_tree.specs.Exprs.{ToLocal, ToVariable, ToElement, LockName}
+use Rattle.ido_base.specs.declared.place.Place.{Place}
+use Rattle.ido_ints.specs.declared.kinds.Kind.{Kind}
 use Rattle.c_tree.specs.Source.{Pending}
 use Rattle.flow_graph.specs.Nodes.{Action, Eval, Store, Test, Lock, Unlock, End, Node, successors}
 use Rattle.flow_graph.specs.Actions as a
@@ -13,7 +16,7 @@ use Rattle.flow_graph.specs.Actions.{Seen, effect_of}
 use Rattle.flow_graph.specs.Liveness.{NodeAt}
 use Rattle.code_runs.specs.CodeTraces.{Program, MarkedEnvironment, Meets, Mark, marked}
 use Rattle.hart_runs.proofs.Public.{none_some, some_same}
-use Rattle.thread_code.specs.Plans.{Plan, Thread, IsNodeOf}
+use Rattle.thread_code.specs.Plans.{Assigns, Plan, Thread, IsNodeOf}
 use Rattle.thread_code.specs.NodeCodeEffects.{Places}
 use Rattle.thread_code.specs.Programs.{IsThreadCode, mark_of}
 use Rattle.thread_runs.proofs.FragmentStarts.{contains_first}
@@ -171,6 +174,47 @@ gives_unlock action seen mutex next eq = unlock_by seen.locals action mutex next
 
 pub ends_end : (action : Action) (seen : Seen) → effect_of action seen ≡ Some a.Ends → action ≡ End
 ends_end action seen eq = end_by seen.locals action (call_is action seen a.Ends eq)
+
+-- ---- Assignments
+
+-- an action that sets a local is an assignment of it
+record SetsLocal (action : Action) (local next : ℕ) : Type 0 where
+  place : Place
+  kind : Kind
+  assigned : e.Placed
+  is : action ≡ Eval (ToLocal place local kind) assigned next
+
+sets_local : (action : Action) (seen : Seen) (local : ℕ) (number : ℤ) (next : ℕ) → effect_of action seen ≡ Some (a.Sets local number next) →
+    SetsLocal action local next
+sets_local (Eval (ToLocal place own kind) x n) seen local number next eq =
+    let of_local : own ≡ local = cc in
+    let goes : n ≡ next = cc in
+    record {
+      place = place;
+      kind = kind;
+      assigned = x;
+      is = ap (λ (i : ℕ). Eval (ToLocal place i kind) x n) of_local ∙ ap (λ (i : ℕ). Eval (ToLocal place local kind) x i) goes;
+    }
+sets_local (Eval (ToVariable place variable kind) x n) seen local number next eq = absurd (let z : ⊥ = cc in z)
+sets_local (Eval (ToElement place variable kind index) x n) seen local number next eq = absurd (let z : ⊥ = cc in z)
+sets_local (Store variable kind n) seen local number next eq = absurd (pending seen.pending eq)
+  where
+    pending : (o : Option Pending) → (elim o [
+      | Some store ↦ Some (a.Makes store n)
+      | None ↦ None
+    ]) ≡ Some (a.Sets local number next) → ⊥
+    pending (Some store) k = cc
+    pending None k = cc
+sets_local (Test condition holds fails) seen local number next eq = absurd (let z : ⊥ = cc in z)
+sets_local (Lock lock n) seen local number next eq = absurd (let z : ⊥ = cc in z)
+sets_local (Unlock lock n) seen local number next eq = absurd (let z : ⊥ = cc in z)
+sets_local End seen local number next eq = absurd (let z : ⊥ = cc in z)
+
+pub assigns_local : (p : Plan) (node : ℕ) (is : Node) (seen : Seen) (local : ℕ) (number : ℤ) (next : ℕ) → NodeAt p.graph node is →
+    effect_of is.action seen ≡ Some (a.Sets local number next) → (assigns : Assigns p node local) × (assigns.next ≡ next)
+assigns_local p node is seen local number next found eq =
+    let sets = sets_local is.action seen local number next eq in
+    (record { is = is; at = found; place = sets.place; kind = sets.kind; assigned = sets.assigned; next = next; action = sets.is }, refl)
 
 -- ---- Marks
 

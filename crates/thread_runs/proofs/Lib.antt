@@ -4,6 +4,7 @@ mod RemainingSteps
 mod FragmentSteps
 mod MarkSteps
 mod OtherEventsKeepThreads
+mod AssignedLocals
 mod Boundaries
 mod BoundaryCleanCount
 mod FragmentStarts

@@ -1,13 +1,13 @@
 -- Threads that ask for a mutex.
-use Rattle.std.proofs.Common.{◌≡◌, ℕ, ◌+◌, List, [], length, refl, ap, sym, ◌∙◌, subst, true, false, Some, None, ◌==◌}
-use Rattle.std.specs.Prelude.{slice_get, ◌&&◌, Contains}
+use Rattle.std.proofs.Common.{◌≡◌, inl, ℕ, ◌+◌, List, [], length, refl, ap, sym, ◌∙◌, subst, true, false, Some, None, ◌==◌}
+use Rattle.std.specs.Prelude.{slice_get, ◌&&◌, Contains, pos}
 use Rattle.std.specs.List.{list_any}
 use Rattle.machine_events.specs.declared.event.Event.TheVariants.{Step}
 use Rattle.machine_events.specs.declared.event.Reply.TheVariants.{Waits}
 use Rattle.rv64_isa.specs.Rows.{Effect, next, read}
 use Rattle.machine_model.specs.Machine.{Hart, World, Outcome, with_holder, moved, gone_on, happens, after_event}
 use Rattle.machine_model.specs.Schedule.{has_moved, is_mark, passes_mark}
-use Rattle.boundary_code.specs.Boundaries.{boundary_effects, side_after}
+use Rattle.boundary_code.specs.Boundaries.{Boundary, boundary_effects}
 use Rattle.node_code.specs.Pieces.{takes}
 use Rattle.flow_graph.specs.Nodes.{Action, Lock, successors}
 use Rattle.flow_graph.specs.Actions.{Seen}
@@ -19,10 +19,11 @@ use Rattle.hart_runs.specs.Laws as r
 use Rattle.hart_runs.proofs.Public as k
 use Rattle.hart_runs.proofs.Public.{moved_harts_begin}
 use Rattle.thread_code.specs.Plans.{Plan, Thread, IsNodeOf}
-use Rattle.thread_code.specs.NodeCodeEffects.{Places, keeping}
+use Rattle.thread_code.specs.RegistersAtNodes.{IsFrameAnswered, LogView}
+use Rattle.thread_code.specs.NodeCodeEffects.{Places, keeping, opens_section, view_after}
 use Rattle.thread_code.specs.Programs.{IsThreadCode, IsCalling, mark_of}
 use Rattle.thread_runs.specs.CodeFragments as ways
-use Rattle.thread_runs.specs.CodeFragments.{ReadsVariables, Running, IsLockOf, IsOnFragment, IsPlaced}
+use Rattle.thread_runs.specs.CodeFragments.{ReadsOwn, Running, IsLockOf, IsOnFragment, IsPlaced}
 use Rattle.thread_runs.specs.Laws.{TakesMutex, LocksTake, LocksWait}
 use Rattle.thread_runs.proofs.Boundaries.{boundary_may, boundary_apart}
 use Rattle.thread_runs.proofs.FragmentStarts.{on_fragment, contains_first}
@@ -31,9 +32,9 @@ use Rattle.thread_runs.proofs.Graph.{mark_there}
 use Rattle.thread_runs.proofs.ThreadsAtCalls.{agrees_on, words_stay, count_stays, log_stays, has_moved_by}
 use Rattle.thread_runs.proofs.ThreadsAtCalls.{and_right, pc_is, registers_are, call_there, boundary_after_is}
 
-module _ {p : Plan} {t : Thread} {own : Program} (code : IsThreadCode p t own) {running : Running} {node mutex next : ℕ} {seen : Seen} {side : ℕ}
+module _ {p : Plan} {t : Thread} {own : Program} (code : IsThreadCode p t own) {running : Running} {node mutex next : ℕ} {seen : Seen} {view : LogView}
     {effects : List Effect} (counts : r.CallsCount)
-    (fragment : IsOnFragment p t code.places running (record { exit = ways.Asks mutex next; node = node; seen = seen; side = side }) 0 effects) where
+    (fragment : IsOnFragment p t code.places running (record { exit = ways.Asks mutex next; node = node; seen = seen; view = view }) 0 effects) where
   open running use {program, world as w, hart as h, environment as s}
 
   abbrev c : Places
@@ -65,7 +66,8 @@ module _ {p : Plan} {t : Thread} {own : Program} (code : IsThreadCode p t own) {
       (k.acquires_wait program w h holder at_call (ap (λ (l : ℕ). slice_get w.holders l) lock_is ∙ held)) in
       (does, λ marks. (counts program w h takes at_call).0 marks ∙ ap (λ (o : Outcome). has_moved o.1 && is_mark marks h hart.pc) does)
 
-  module _ (placed : IsPlaced p t c w.log (length w.harts)) (reads : ReadsVariables s) (free : slice_get w.holders mutex ≡ Some None) where
+  module _ (placed : IsPlaced p t c w.log (length w.harts)) (reads : ReadsOwn w.log t.number s)
+      (framed : IsFrameAnswered p t view next s.around.loads) (free : slice_get w.holders mutex ≡ Some None) where
     does : happens program w (Step h) ≡ moved (with_holder w mutex (Some h)) h (gone_on hart)
     does = subst (λ (l : ℕ). happens program w (Step h) ≡ moved (with_holder w l (Some h)) h (gone_on hart)) lock_is
         (k.acquires_take program w h at_call (ap (λ (l : ℕ). slice_get w.holders l) lock_is ∙ free))
@@ -97,24 +99,27 @@ module _ {p : Plan} {t : Thread} {own : Program} (code : IsThreadCode p t own) {
         (subst (λ (a : Action). list_any (λ mark. mark == mark_of c a node) s.marks ≡ true) lock.locks
         (mark_there p t own code s fragment.meets node lock.is lock.own lock.at))
 
-    pub takes_it : TakesMutex p t c running mutex next (record { exit = ways.Asks mutex next; node = node; seen = seen; side = side }) hart
+    abbrev b : Boundary
+    b = keeping p t c (opens_section p t c node) seen.locals next
+
+    pub takes_it : TakesMutex p t c running mutex next (record { exit = ways.Asks mutex next; node = node; seen = seen; view = view }) hart
         fragment.registers
     takes_it = record {
       does = does;
       on = on_fragment p t c program v h s fragment.meets agrees_after
-          (record { exit = ways.Took node; node = next; seen = seen; side = side_after (keeping p t c seen.locals next) side }) (c.words node) (c.call node + 4)
-          fragment.registers (boundary_effects (keeping p t c seen.locals next) side (c.after node) fragment.registers) own_next (mutex, lock)
-          (boundary_apart (length w.harts) s (keeping p t c seen.locals next) side (c.after node) fragment.registers reads placed.number
+          (record { exit = ways.Took node; node = next; seen = seen; view = view_after b view }) (c.words node) (c.call node + 4)
+          fragment.registers (boundary_effects b view.side (c.after node) fragment.registers) own_next (mutex, lock)
+          (boundary_apart w.log (length w.harts) s b view.side (c.after node) fragment.registers placed.log reads placed.number
           (placed.locks seen.locals next own_next)
-          (λ r q. placed.slots next r own_next q))
-          (subst (λ (n : ℕ). MayGo v.log n (seen_effects (boundary_effects (keeping p t c seen.locals next) side (c.after node) fragment.registers)))
+          (λ r q. placed.slots next r own_next (inl q)))
+          (subst (λ (n : ℕ). MayGo v.log n (seen_effects (boundary_effects b view.side (c.after node) fragment.registers)))
           (sym same_count)
-          (boundary_may v.log (length w.harts) (keeping p t c seen.locals next) side (c.after node) fragment.registers (placed.log ∙ sym same_log) placed.number
+          (boundary_may v.log (length w.harts) b view.side (c.after node) fragment.registers (placed.log ∙ sym same_log) placed.number
           (placed.locks seen.locals next own_next)
-          (λ r q. placed.slots next r own_next q)))
+          (λ r q. placed.slots next r own_next (inl q))))
           after
-          (calling.2 (record { environment = s; node = node; seen = seen; side = side; registers = fragment.registers }) fragment.meets refl
-          fragment.has.enters);
+          (calling.2 (record { environment = s; node = node; seen = seen; view = view; owed = pos 0; registers = fragment.registers }) fragment.meets refl
+          fragment.has.enters framed);
       mark = λ marks same. (counts program w h takes at_call).0 marks
           ∙ (and_right _ _ (has_moved_by program w (with_holder w mutex (Some h)) h (gone_on hart) does)
           ∙ mark_of_machine marks h s hart.pc true same marked_there);
@@ -122,9 +127,9 @@ module _ {p : Plan} {t : Thread} {own : Program} (code : IsThreadCode p t own) {
     }
 
 pub locks_take : r.CallsCount → LocksTake
-locks_take counts p t program own code w h s node mutex next seen side effects placed reads fragment free =
-    takes_it code counts fragment placed reads free
+locks_take counts p t program own code w h s node mutex next seen view effects placed reads fragment framed free =
+    takes_it code counts fragment placed reads framed free
 
 pub locks_wait : r.CallsCount → LocksWait
-locks_wait counts p t program own code w h s node mutex next seen side effects holder fragment held =
+locks_wait counts p t program own code w h s node mutex next seen view effects holder fragment held =
     waits code counts fragment holder held

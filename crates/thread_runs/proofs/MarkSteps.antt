@@ -78,7 +78,7 @@ module _ {p : Plan} {t : Thread} {c : Places} {running : Running} {e : a.Effect}
           on = d.on;
           has = at.has;
           mark = subst (λ (x : Hart). marked s.marks x.pc ≡ Mark ∷ []) (sym d.same) at.mark;
-          made = subst (λ (x : Hart). (effect : Effect) → effect_at program h x ≡ Some effect → IsMadeBy p t c e effect) (sym d.same) at.made;
+          made = subst (λ (x : Hart). (effect : Effect) → effect_at program h x ≡ Some effect → IsMadeBy p t c stage e effect) (sym d.same) at.made;
         };
         no_mark = none.0;
         counts = (none.1, none.2);

@@ -40,7 +40,7 @@ others_keep_marks p t c program w h s e stage steps effects event sound other at
       on = k.on;
       has = at.has;
       mark = subst (λ (x : Hart). marked s.marks x.pc ≡ Mark ∷ []) (sym k.same) at.mark;
-      made = subst (λ (x : Hart). (effect : Effect) → effect_at program h x ≡ Some effect → IsMadeBy p t c e effect) (sym k.same) at.made;
+      made = subst (λ (x : Hart). (effect : Effect) → effect_at program h x ≡ Some effect → IsMadeBy p t c stage e effect) (sym k.same) at.made;
     }
 
 pub fragments_are_well : NoneIsStuck → FragmentsAreWell

@@ -1,9 +1,10 @@
 -- What is seen of a run on which no mark is ahead, and of one that begins with a mark.
-use Rattle.std.proofs.Common.{◌≡◌, ℕ, List, [], ◌∷◌, ◌++◌, refl, ap, sym, ◌∙◌, cond, Bool, true, false, ◌==◌}
+use Rattle.std.proofs.Common.{◌≡◌, ℕ, zero, suc, List, [], ◌∷◌, ◌++◌, refl, ap, sym, ◌∙◌, cond, Bool, true, false, ◌==◌}
 use Rattle.std.specs.List.{list_any}
 use Rattle.rv64_isa.specs.Rows.{Effect, Continues, Loads, Stores, Cleans, Fences, Calls}
 use Rattle.machine_model.specs.Schedule.{is_mark}
-use Rattle.code_runs.specs.CodeTraces.{MarkedEnvironment, Observation, Mark, Does, outside, marked, seen_effects}
+use Rattle.code_runs.specs.ComputingRuns.{LocalConfig}
+use Rattle.code_runs.specs.CodeTraces.{MarkedEnvironment, Observation, GoesThrough, Fragment, Mark, Does, Trace, outside, marked, seen_effects}
 use Rattle.hart_runs.specs.Laws.{StoresApart}
 use Rattle.thread_runs.specs.CodeFragments.{AreEffectsApart, effects_of}
 use Rattle.thread_runs.specs.Laws.{AreMarksOf}
@@ -110,3 +111,16 @@ apart_first s (Stores address bytes value) rest h = (h.0, h.1)
 apart_first s (Cleans address) rest h = (tt, h.1)
 apart_first s Fences rest h = (tt, h.1)
 apart_first s Calls rest h = (tt, h)
+
+-- ---- Runs
+
+-- a run of which something is seen has instructions
+pub some_steps : (s : MarkedEnvironment) (n : ℕ) (m to : LocalConfig) (first : Observation) (later : List Observation) → Trace s n m (first ∷ later) to →
+    (k : ℕ) × (n ≡ suc k)
+some_steps s zero m to first later w = absurd (let e : first ∷ later ≡ [] = w.1 in let z : ⊥ = cc in z)
+some_steps s (suc k) m to first later w = (k, refl)
+
+-- what registers have at a fragment's end may be said in other words
+pub goes_with : {s : MarkedEnvironment} {fragment : Fragment} {seen : List Observation} {has other : List ℕ → Type 0} → ((x : List ℕ) → has x → other x) →
+    GoesThrough s fragment seen has → GoesThrough s fragment seen other
+goes_with say goes = record { registers = goes.registers; steps = goes.steps; walks = goes.walks; short = goes.short; are = say goes.registers goes.are }

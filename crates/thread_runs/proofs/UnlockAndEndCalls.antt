@@ -16,6 +16,7 @@ use Rattle.hart_runs.specs.Laws as r
 use Rattle.hart_runs.proofs.Public as k
 use Rattle.hart_runs.proofs.Public.{moved_harts_begin}
 use Rattle.thread_code.specs.Plans.{Plan, Thread}
+use Rattle.thread_code.specs.RegistersAtNodes.{LogView}
 use Rattle.thread_code.specs.NodeCodeEffects.{Places}
 use Rattle.thread_code.specs.Programs.{IsThreadCode, IsCalling}
 use Rattle.thread_runs.specs.CodeFragments as ways
@@ -24,9 +25,9 @@ use Rattle.thread_runs.specs.Laws.{GivesMutex, UnlocksGive, EndsEnd}
 use Rattle.thread_runs.proofs.RunObservations.{mark_of_machine, none_marked}
 use Rattle.thread_runs.proofs.ThreadsAtCalls.{agrees_on, words_stay, count_stays, log_stays, and_none, pc_is, registers_are, call_there, boundary_after_is}
 
-module _ {p : Plan} {t : Thread} {own : Program} (code : IsThreadCode p t own) {running : Running} {from mutex next : ℕ} {seen : Seen} {side : ℕ}
+module _ {p : Plan} {t : Thread} {own : Program} (code : IsThreadCode p t own) {running : Running} {from mutex next : ℕ} {seen : Seen} {view : LogView}
     {effects : List Effect} (counts : r.CallsCount) (placed : IsPlaced p t code.places running.world.log (length running.world.harts))
-    (fragment : IsOnFragment p t code.places running (record { exit = ways.Gives from mutex; node = next; seen = seen; side = side }) 0 effects)
+    (fragment : IsOnFragment p t code.places running (record { exit = ways.Gives from mutex; node = next; seen = seen; view = view }) 0 effects)
     (held : slice_get running.world.holders mutex ≡ Some (Some running.hart)) where
   open running use {program, world as w, hart as h, environment as s}
 
@@ -68,7 +69,7 @@ module _ {p : Plan} {t : Thread} {own : Program} (code : IsThreadCode p t own) {
       (subst (λ (ms : List ℕ). list_any (λ mark. mark == c.call from) ms ≡ false) (sym fragment.meets.marks)
       (none_marked c.program.nodes (c.call from) calling.3))
 
-  pub gives_it : GivesMutex p t c running from mutex (record { exit = ways.Gives from mutex; node = next; seen = seen; side = side }) hart fragment.registers
+  pub gives_it : GivesMutex p t c running from mutex (record { exit = ways.Gives from mutex; node = next; seen = seen; view = view }) hart fragment.registers
   gives_it = record {
     does = does;
     agrees = agrees_on program w v h s (words_stay program w (with_holder w mutex None) h after does refl)
@@ -82,13 +83,13 @@ module _ {p : Plan} {t : Thread} {own : Program} (code : IsThreadCode p t own) {
   }
 
 pub unlocks_give : r.CallsCount → UnlocksGive
-unlocks_give counts p t program own code w h s from mutex next seen side effects placed fragment held =
+unlocks_give counts p t program own code w h s from mutex next seen view effects placed fragment held =
     gives_it code counts placed fragment held
 
 -- ---- Ends
 
 pub ends_end : r.CallsCount → EndsEnd
-ends_end counts p t program own code w h s node seen side effects fragment none =
+ends_end counts p t program own code w h s node seen view effects fragment none =
     let c : Places = code.places in
     let hart : Hart = fragment.on.hart in
     let of_end = fragment.of_graph in

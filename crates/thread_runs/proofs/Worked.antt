@@ -1,6 +1,8 @@
--- Worked rows: a thread that has its end alone.
+-- Worked rows: a thread that has its end alone, and assignments of a local in the frame.
 use Rattle.std.proofs.Common.{◌≡◌, ℕ, ◌+◌, ◌*◌, List, [], ◌∷◌, replicate, refl, arith, Bool, true, false, Option, Some, None}
-use Rattle.std.specs.Prelude.{slice_get, slice_set}
+use Rattle.std.specs.Prelude.{slice_get, slice_set, pos}
+use Rattle.c_tree.specs.Exprs.{LockName}
+use Rattle.expr_code.specs.declared.home.Home.TheVariants.{InFrame}
 use Rattle.log_schemes.specs.declared.log.Log.TheVariants.{V1}
 use Rattle.ido_base.specs.declared.place.Place.{Place}
 use Rattle.machine_events.specs.declared.event.Event.TheVariants.{Step}
@@ -11,7 +13,7 @@ use Rattle.rv64_isa.specs.declared.object.Slot.TheVariants.{Row}
 use Rattle.machine_model.specs.declared.phase.Phase.{Phase}
 use Rattle.machine_model.specs.declared.phase.Phase.TheVariants.{Run, Ended}
 use Rattle.rv64_isa.specs.Arithmetic.{result_of}
-use Rattle.rv64_isa.specs.Rows.{row}
+use Rattle.rv64_isa.specs.Rows.{Cleans, Stores, row}
 use Rattle.machine_model.specs.Machine.{Hart, World, happens, after_event, after_events}
 use Rattle.machine_model.specs.Schedule.{passes_mark}
 use Rattle.flow_graph.specs.Nodes.{End, Node}
@@ -21,8 +23,9 @@ use Rattle.code_runs.specs.CodeTraces.{MarkedEnvironment, Mark}
 use Rattle.hart_runs.specs.HartsOnRuns.{environment_of}
 use Rattle.hart_runs.specs.Laws.{EnvironmentsAgree, EnvironmentsMeet, program_at}
 use Rattle.thread_code.specs.Plans.{Plan, Thread}
+use Rattle.thread_code.specs.RegistersAtNodes.{LogView}
 use Rattle.thread_code.specs.NodeCodeEffects.{Places}
-use Rattle.thread_runs.specs.CodeFragments.{IsAtMark, stage_after, on_machine}
+use Rattle.thread_runs.specs.CodeFragments.{Computes, IsAtMark, effects_set, stage_after, on_machine, view_set}
 
 abbrev code : List Slot
 code = Row (OpImmediate Addi 17 0 3) ∷ Row Ecall ∷ []
@@ -49,6 +52,9 @@ s = environment_of program marks no_loads w 0
 abbrev seen : a.Seen
 seen = record { locals = []; pending = None; variables = [] }
 
+abbrev view : LogView
+view = record { side = 0; frame = λ address. 0 }
+
 abbrev t : Thread
 t = record { number = 0; part = record { first = 0; end = 1; locals = 0 }; kinds = []; locals = [] }
 
@@ -61,6 +67,8 @@ c = record {
   call = λ node. 0x10000 + 8 * node + 4;
   after = λ node. 0;
   live = λ node. [];
+  kept = λ node. [];
+  store = λ node. 0;
   cleans = λ node. false;
 }
 
@@ -79,8 +87,30 @@ module _ (place : Place) (agree : EnvironmentsAgree) (meet : EnvironmentsMeet) w
     colours = [];
   }
 
+  -- outside sections the thread goes on to the store of a local that stands in the frame, and its log is as it was
+  abbrev framed : Thread
+  framed = record t { locals = InFrame 0x2000_0200 ∷ [] }
+
+  abbrev with_local : (number : ℕ) → a.Seen
+  with_local number = record seen { locals = pos number ∷ [] }
+
+  outside : stage_after p framed c 0 (with_local 3) view (registers 0) (a.Sets 0 (pos 7) 1) ≡
+      record { exit = Computes 0 0 (pos 7); node = 1; seen = with_local 7; view = view }
+  outside = refl
+
+  -- in a section the mark stores the number, of which x29 has the form, and the word has it then, but no other word
+  inside : (name : LockName) → effects_set p framed c (InFrame 0x2000_0200) (name ∷ []) (slice_set (replicate 32 0) 29 7) ≡
+      Stores 0x2000_0200 8 7 ∷ Cleans 0x2000_0200 ∷ []
+  inside name = refl
+
+  word : (name : LockName) → (view_set p framed c (InFrame 0x2000_0200) (name ∷ []) (slice_set (replicate 32 0) 29 7) view).frame 0x2000_0200 ≡ 7
+  word name = refl
+
+  other : (name : LockName) → (view_set p framed c (InFrame 0x2000_0200) (name ∷ []) (slice_set (replicate 32 0) 29 7) view).frame 0x2000_0208 ≡ 0
+  other name = refl
+
   -- before its first step the thread is at the mark of its end
-  at_mark : IsAtMark p t c (on_machine program w 0 s) a.Ends (stage_after p t c 0 seen 0 a.Ends) 0 []
+  at_mark : IsAtMark p t c (on_machine program w 0 s) a.Ends (stage_after p t c 0 seen view (registers 0) a.Ends) 0 []
   unfolding row result_of
   at_mark = record {
     meets = meet program marks [] no_loads w 0;

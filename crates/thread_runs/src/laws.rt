@@ -1,5 +1,5 @@
 //! What is true of threads in fragments of their code: nothing is computed here.
-ghost use Rattle.thread_runs.specs.Laws.{ArrivalsEnd, CoresSeeAll, EndsAreWell, EndsEnd, KeepsEnd, LocksAreWell, LocksGoOn, LocksTake, LocksWait};
+ghost use Rattle.thread_runs.specs.Laws.{ArrivalsEnd, ComputesEnd, CoresSeeAll, EndsAreWell, EndsEnd, KeepsEnd, LocksAreWell, LocksGoOn, LocksTake, LocksWait};
 ghost use Rattle.thread_runs.specs.Laws.{MarksAreBounded, MarksAreWell, MarksPass, NodesBegin, OthersKeepCores, OthersKeepMarks, OthersKeepFragments};
 ghost use Rattle.thread_runs.specs.Laws.{PlansArePlaced, ResumedGoOn, StaysAreAtCore, ThreadsStart, TookEnd, UnlocksAreWell, UnlocksGive};
 ghost use Rattle.thread_runs.specs.Laws.{UnlocksGoOn, FragmentsAreBounded, FragmentsAreWell, FragmentsGoOn, FragmentsResettle, FragmentsSeeAll};
@@ -44,11 +44,13 @@ pub fn threads_start()
 {}
 
 /// At its end a fragment is one in any environment. At the entry of its node a thread begins with the boundary before it, if one is chosen
-/// there, else it is at the node's code, and so it is after that boundary.
+/// there, else it is at the node's code, and so it is after that boundary. Where the number of an assignment outside sections is computed it is at the
+/// store of that.
 pub fn fragments_end()
     ensures resettle { FragmentsResettle }
     ensures arrives { ArrivalsEnd }
     ensures keeps { KeepsEnd }
+    ensures computes { ComputesEnd }
 {}
 
 /// At its node's code a thread asks for the node's mutex, or is at the node's mark.

@@ -2,14 +2,14 @@
 use Rattle.std.specs.Prelude.{◌≡◌, ◌≢◌, ℕ, ◌+◌, ◌*◌, ◌%◌, ◌^◌, ◌<◌, ◌≤◌, List, [], ◌∷◌, ◌++◌, map, length, false, if◌then◌else◌}
 use Rattle.ido_base.specs.declared.limits.TheConstants.{MOST_THREADS}
 use Rattle.log_schemes.specs.declared.log.Log.{Log}
-use Rattle.log_schemes.specs.Schemes.{keeping_of, register_slot}
-use Rattle.log_schemes.specs.Layout.{slot_at, bank_bytes}
+use Rattle.log_schemes.specs.Schemes.{keeping_of, register_slot, told}
+use Rattle.log_schemes.specs.Layout.{bank_bytes, frame_at, slot_at}
 use Rattle.rv64_isa.specs.declared.instr.Instr.{Instr}
 use Rattle.rv64_isa.specs.Rows.{Effect, Stores, Cleans, read}
 use Rattle.rv64_isa.specs.Signed.{twos_complement}
 use Rattle.memory_layout.specs.Roles.{bank_offset, is_temporary}
 use Rattle.operator_code.specs.StraightLineCode.{effects, registers_after}
-use Rattle.boundary_code.specs.Boundaries.{Boundary, IsBoundaryCode, IsOnSide, IsUnderWay, boundary_effects, commit_effects, first_kept, is_empty, keep_locks}
+use Rattle.boundary_code.specs.Boundaries.{Boundary, IsBoundaryCode, IsOnSide, IsUnderWay, boundary_effects, commit_effects, first_kept, frame_lines, is_empty, keep_locks}
 use Rattle.boundary_code.specs.Boundaries.{lines_in_use, listed_locks, other_side, slots_kept}
 
 -- where recovery resumes, where the boundary's code stands at this address
@@ -45,11 +45,14 @@ pub record Opens (log : Log) (thread value : ℕ) (code : List Instr) : Type 0 w
   pub does : (x : List ℕ) (pc side : ℕ) → IsOnSide log side x → effects code x pc ≡ Stores (slot_at log thread (other_side side) 0) 8 value ∷ []
   pub leaves : (x : List ℕ) (pc side : ℕ) → IsOnSide log side x → IsUnderWay log thread (other_side side) x (registers_after code x pc)
 
--- what is left to do after the locks: the bank gets the live registers, its lines in use are cleaned, and the point names it
+-- what is left to do after the locks: the bank is told of a write and gets the live registers, its lines in use and those of the frame are cleaned, and the point
+-- names it
 abbrev pub closing_effects : Boundary → (bank resume : ℕ) → (registers : List ℕ) → List Effect
 closing_effects b bank resume x =
+    map (λ (one : ℕ × ℕ). Stores (slot_at b.log b.thread bank one.0) 8 one.1) (told b.log b.written) ++
     map (λ r. Stores (slot_at b.log b.thread bank (register_slot b.log r)) 8 (read x r)) b.live ++
-    map (λ line. Cleans (slot_at b.log b.thread bank (8 * line))) (lines_in_use b.log (slots_kept b.log b.locks b.live)) ++
+    map (λ line. Cleans (slot_at b.log b.thread bank (8 * line))) (lines_in_use b.log (slots_kept b.log b.locks b.written b.live)) ++
+    map (λ line. Cleans (frame_at b.log b.thread (8 * line))) (frame_lines b.log b.opens) ++
     commit_effects b.log b.thread ((resume + bank) % 2 ^ 64)
 
 -- code that ends the boundary

@@ -5,7 +5,7 @@ use Rattle.machine_events.specs.declared.event.Event.TheVariants.{Crash}
 use Rattle.machine_events.specs.Cores.{played}
 use Rattle.c_tree.specs.Flats.{flat_of}
 use Rattle.compiler_correctness.specs.Compilations.{IsCompilation}
-use Rattle.flat_compile.specs.TranslatedForms.{IsTranslated}
+use Rattle.flat_compile.specs.TranslatedForms.{IsTranslatedAs}
 use Rattle.hart_driver.specs.declared.sweep.Outcome.{Outcome}
 use Rattle.c_tree.specs.declared.flat.Flat.{Flat}
 use Rattle.flat_compile.specs.declared.compile.Translated.{Translated}
@@ -25,7 +25,7 @@ use Rattle.ido_cli.specs.Sweeps.{IsOutcomeOf, most_round_steps, most_sweep_event
 
 -- the script is one for a compilation's machine
 pub record CanSweep (flat : Flat) (translated : Translated) (script : Script) : Type 0 where
-  pub translated_is : IsTranslated (flat_of flat) translated.object translated.marks translated.cuts
+  pub translated_is : IsTranslatedAs translated.object.log (flat_of flat) translated.object translated.marks translated.cuts
   pub compilation : IsCompilation (translation_to (flat_of flat) translated.object translated.marks translated.cuts)
   pub doable : let threads = length translated.object.code.items in
       All (λ line. IsDoable threads (IsEviction translated.object.log threads) line.command) script.lines.items

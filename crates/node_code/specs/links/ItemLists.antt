@@ -3,6 +3,7 @@ use Rattle.std.specs.Prelude.{ℕ, List, [], ◌∷◌, ◌++◌, map, Bool, if�
 use Rattle.rv64_isa.specs.declared.instr.Instr.{Instr}
 use Rattle.rv64_isa.specs.declared.instr.Instr.TheVariants.{Store, OpImmediate, CboClean, Ecall}
 use Rattle.rv64_isa.specs.declared.instr.StoreKind.{StoreKind}
+use Rattle.rv64_isa.specs.declared.instr.StoreKind.TheVariants.{Sd}
 use Rattle.rv64_isa.specs.declared.instr.ImmediateOperation.TheVariants.{Addi}
 use Rattle.rv64_isa.specs.declared.object.CodeItem.{CodeItem}
 use Rattle.rv64_isa.specs.declared.object.Label.{Label}
@@ -41,6 +42,10 @@ asking_items numbering call = plain numbering ++ Instruction (OpImmediate Addi 1
 
 abbrev pub end_items : List CodeItem
 end_items = MarkNext ∷ plain (OpImmediate Addi 17 0 3 ∷ []) ++ Instruction Ecall ∷ []
+
+-- code that computes, and the store of x29's eight bytes at x28's place
+abbrev pub write_items : List Instr → List CodeItem
+write_items code = computing_items code ++ Instruction (Store Sd 29 28 0) ∷ []
 
 abbrev pub boundary_items : (boundary : List Instr) → List CodeItem
 boundary_items boundary = plain boundary ++ ResumeNext ∷ []

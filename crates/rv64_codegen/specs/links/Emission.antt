@@ -28,7 +28,7 @@ pub record IsEmittedOf (p : Plan) (number : ℕ) (items : List CodeItem) : Type 
 
 -- the thread's locals stand there, and these registers are live at its nodes
 abbrev pub AreHomesOf : Plan → (number : ℕ) → List Home → Type 0
-AreHomesOf p number homes = (colours : List ℕ) → slice_get p.colours number ≡ Some colours → homes ≡ map home_of_colour colours
+AreHomesOf p number homes = (colours : List ℕ) → slice_get p.colours number ≡ Some colours → homes ≡ map (home_of_colour p.log number) colours
 
 abbrev pub AreListsOf : Plan → (number : ℕ) → List Home → List (Vec ℕ Global) → Type 0
 AreListsOf p number homes lists = (part : Part) → slice_get p.graph.threads number ≡ Some part →

@@ -5,7 +5,7 @@ use Rattle.std.proofs.lemmas.Bool.{ne_eqb}
 use Rattle.std.proofs.lemmas.Result.{IfOk-weaker}
 use Rattle.log_schemes.specs.declared.log.Log.{Log}
 use Rattle.log_schemes.specs.Layout.{log_of}
-use Rattle.log_schemes.specs.Schemes.{keeping_of}
+use Rattle.log_schemes.specs.Schemes.{keeping_of, told}
 use Rattle.log_schemes.specs.declared.keeping.Keeping.{Keeping}
 use Rattle.log_schemes.specs.declared.keeping.Keeping.TheVariants.{Masked}
 use Rattle.ido_base.specs.Locks.{locks_in}
@@ -13,8 +13,8 @@ use Rattle.ido_base.proofs.Public.{mask_of_locks}
 use Rattle.rv64_isa.specs.declared.instr.Instr.{Instr}
 use Rattle.rv64_isa.specs.Signed.{twos_complement}
 use Rattle.operator_code.specs.StraightLineCode.{IsConstant}
-use Rattle.boundary_code.specs.Boundaries.{Boundary, first_kept, fixed_words, is_empty, listed_locks}
-use Rattle.boundary_code.specs.links.InstructionLists.{bank_list, last_list}
+use Rattle.boundary_code.specs.Boundaries.{Boundary, first_kept, fixed_words, frame_lines, is_empty, keep_told, listed_locks}
+use Rattle.boundary_code.specs.links.InstructionLists.{Beside, bank_list, last_list}
 use Rattle.boundary_code.proofs.MadeBoundaries.{Parts, bank_made, last_made, slots_are}
 use Rattle.boundary_code.proofs.EmptyLists.{empty_where}
 use Rattle.boundary_code.proofs.Lengths.{boundary_short, last_short}
@@ -44,7 +44,15 @@ short_as code list n e h = subst (λ (is : List Instr). length is ≤ n) (sym e)
 
 pub returns-then-mask-eq0-clause-code : goal.returns-then-mask-eq0-clause-code
 returns-then-mask-eq0-clause-code c =
-    let b : Boundary = record { log = c.args.log; thread = c.args.thread; locks = locks_in c.args.mask; live = c.args.live.now; resume = c.args.resume } in
+    let b : Boundary = record {
+      log = c.args.log;
+      thread = c.args.thread;
+      locks = locks_in c.args.mask;
+      live = c.args.live.now;
+      resume = c.args.resume;
+      written = c.args.written.bytes;
+      opens = c.args.written.opens;
+    } in
     let none = none_listed c.args.log (locks_in c.args.mask) c.requires.keeping in
     let parts : Parts b [] c.in_ok-address.address.items = record {
       is_log = is_log c.args.log c.log_of.result c.args.thread c.in_ok-address.address.items c.log_of.ensures c.in_ok-address.ensures.code;
@@ -52,6 +60,7 @@ returns-then-mask-eq0-clause-code c =
       few = omega (arith);
       thread_is = c.requires.thread;
       live_are = c.requires.live;
+      bytes = c.requires.bytes;
       low = c.requires.low;
       high = c.requires.high;
     } in
@@ -62,7 +71,15 @@ returns-then-mask-eq0-clause-code c =
 
 pub returns-clause-code : goal.returns-clause-code
 returns-clause-code c =
-    let b : Boundary = record { log = c.args.log; thread = c.args.thread; locks = locks_in c.args.mask; live = c.args.live.now; resume = c.args.resume } in
+    let b : Boundary = record {
+      log = c.args.log;
+      thread = c.args.thread;
+      locks = locks_in c.args.mask;
+      live = c.args.live.now;
+      resume = c.args.resume;
+      written = c.args.written.bytes;
+      opens = c.args.written.opens;
+    } in
     let none = none_listed c.args.log (locks_in c.args.mask) c.requires.keeping in
     let parts : Parts b [] c.in_ok-address.address.items = record {
       is_log = is_log c.args.log c.log_of.result c.args.thread c.in_ok-address.address.items c.log_of.ensures c.in_ok-address.ensures.code;
@@ -70,14 +87,23 @@ returns-clause-code c =
       few = omega (arith);
       thread_is = c.requires.thread;
       live_are = c.requires.live;
+      bytes = c.requires.bytes;
       low = c.requires.low;
       high = c.requires.high;
     } in
+    let beside : List ℕ → Beside =
+    λ slots. record {
+      telling = keep_told (told c.args.log c.args.written.bytes);
+      slots = slots;
+      live = c.args.live.now;
+      frame = frame_lines c.args.log c.args.written.opens;
+    } in
     IfOk-weaker c.emit_boundary.result _ _
-    (λ code k. bank_made b [] c.in_ok-address.address.items c.in_ok-first.first.items c.deref-2.result.now c.deref-3.result.now [] c.deref-4.result.now
+    (λ code k. bank_made b [] c.in_ok-address.address.items c.in_ok-first.first.items c.deref-2.result.now c.deref-3.result.now [] (beside c.deref-4.result.now)
     (cast_signed w32 (cast_unsigned w32 c.args.resume)) code.items parts (some_mask c.args.mask (search rules) c.if-mask-eq0.false)
     (is_mask c.args.log c.args.mask c.in_ok-first.first.items c.requires.keeping (search rules) c.in_ok-first.ensures.code) c.deref-2.ensures.value
-    c.deref-3.ensures.value refl (c.deref-4.ensures.value ∙ c.in_ok-slots.ensures ∙ slots_are c.args.log (locks_in c.args.mask) c.args.live.now 0 none)
+    c.deref-3.ensures.value refl
+    (ap beside (c.deref-4.ensures.value ∙ c.in_ok-slots.ensures ∙ slots_are c.args.log (locks_in c.args.mask) c.args.written.bytes c.args.live.now 0 none))
     (to_z-of_z w32 c.args.resume c.ranges.resume) k)
     c.emit_boundary.ensures
 
@@ -94,12 +120,17 @@ pub returns-clause-short : goal.returns-clause-short
 returns-clause-short c =
     IfOk-weaker c.emit_boundary.result _ _
     (λ code k.
-    let most = boundary_short c.args.log c.deref-2.result.now c.deref-3.result.now [] c.deref-4.result.now
+    let most = boundary_short c.args.log c.deref-2.result.now c.deref-3.result.now [] c.args.written.bytes c.args.written.opens c.deref-4.result.now
     c.args.live.now (twos_complement 32 (cast_signed w32 (cast_unsigned w32 c.args.resume)))
     (subst (λ (is : List Instr). length is ≤ 8) (sym c.deref-2.ensures.value) c.in_ok-address.ensures.short)
     (subst (λ (is : List Instr). length is ≤ 8) (sym c.deref-3.ensures.value) c.in_ok-first.ensures.short) in
     short_as code.items
-    (bank_list c.args.log c.deref-2.result.now c.deref-3.result.now [] c.deref-4.result.now c.args.live.now
+    (bank_list c.args.log c.deref-2.result.now c.deref-3.result.now [] (record {
+      telling = keep_told (told c.args.log c.args.written.bytes);
+      slots = c.deref-4.result.now;
+      live = c.args.live.now;
+      frame = frame_lines c.args.log c.args.written.opens;
+    })
     (twos_complement 32 (cast_signed w32 (cast_unsigned w32 c.args.resume))))
     (length c.args.live.now + fixed_words c.args.log) k (omega (arith, most)))
     c.emit_boundary.ensures

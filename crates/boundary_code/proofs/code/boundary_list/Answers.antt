@@ -7,14 +7,14 @@ use Rattle.std.proofs.lemmas.List.{length-map}
 use Rattle.std.proofs.lemmas.Result.{IfOk-weaker}
 use Rattle.log_schemes.specs.declared.log.Log.{Log}
 use Rattle.log_schemes.specs.Layout.{log_of}
-use Rattle.log_schemes.specs.Schemes.{keeping_of}
+use Rattle.log_schemes.specs.Schemes.{keeping_of, told}
 use Rattle.log_schemes.specs.declared.keeping.Keeping.{Keeping}
 use Rattle.log_schemes.specs.declared.keeping.Keeping.TheVariants.{Listed}
 use Rattle.rv64_isa.specs.declared.instr.Instr.{Instr}
 use Rattle.rv64_isa.specs.Signed.{twos_complement}
 use Rattle.operator_code.specs.StraightLineCode.{IsConstant}
-use Rattle.boundary_code.specs.Boundaries.{Boundary, first_kept, fixed_words, keep_locks, listed_locks, lists_of, number_words}
-use Rattle.boundary_code.specs.links.InstructionLists.{bank_list, last_list}
+use Rattle.boundary_code.specs.Boundaries.{Boundary, first_kept, fixed_words, frame_lines, keep_locks, keep_told, listed_locks, lists_of, number_words}
+use Rattle.boundary_code.specs.links.InstructionLists.{Beside, bank_list, last_list}
 use Rattle.boundary_code.proofs.EmptyLists.{none_long, some_long}
 use Rattle.boundary_code.proofs.MadeBoundaries.{Parts, bank_made, last_made, slots_are}
 use Rattle.boundary_code.proofs.Lengths.{boundary_short, last_short, locks_length}
@@ -42,7 +42,15 @@ pub returns-then-is_empty-clause-code : goal.returns-then-is_empty-clause-code
 returns-then-is_empty-clause-code c =
     IfOk-weaker c.emit_last_boundary.result _ _
     (λ code k numbers many.
-    let b : Boundary = record { log = c.args.log; thread = c.args.thread; locks = numbers; live = c.args.live.now; resume = c.args.resume } in
+    let b : Boundary = record {
+      log = c.args.log;
+      thread = c.args.thread;
+      locks = numbers;
+      live = c.args.live.now;
+      resume = c.args.resume;
+      written = c.args.written.bytes;
+      opens = c.args.written.opens;
+    } in
     let codes : List (List Instr) = lists_of c.args.locks.now in
     let long : length codes ≡ length c.args.locks.now = lists_length c.args.locks.now in
     let parts : Parts b codes c.in_ok-address.address.items = record {
@@ -51,6 +59,7 @@ returns-then-is_empty-clause-code c =
       few = omega (arith, long, c.requires.locks);
       thread_is = c.requires.thread;
       live_are = c.requires.live;
+      bytes = c.requires.bytes;
       low = c.requires.low;
       high = c.requires.high;
     } in
@@ -61,26 +70,43 @@ pub returns-clause-code : goal.returns-clause-code
 returns-clause-code c =
     IfOk-weaker c.emit_boundary.result _ _
     (λ code k numbers many.
-    let b : Boundary = record { log = c.args.log; thread = c.args.thread; locks = numbers; live = c.args.live.now; resume = c.args.resume } in
+    let b : Boundary = record {
+      log = c.args.log;
+      thread = c.args.thread;
+      locks = numbers;
+      live = c.args.live.now;
+      resume = c.args.resume;
+      written = c.args.written.bytes;
+      opens = c.args.written.opens;
+    } in
     let codes : List (List Instr) = lists_of c.args.locks.now in
     let long : length codes ≡ length c.args.locks.now = lists_length c.args.locks.now in
     let all = all_listed c.args.log numbers c.requires.keeping in
+    let beside : List ℕ → Beside =
+    λ slots. record {
+      telling = keep_told (told c.args.log c.args.written.bytes);
+      slots = slots;
+      live = c.args.live.now;
+      frame = frame_lines c.args.log c.args.written.opens;
+    } in
     let parts : Parts b codes c.in_ok-address.address.items = record {
       is_log = is_log c.args.log c.log_of.result c.args.thread c.in_ok-address.address.items c.log_of.ensures c.in_ok-address.ensures.code;
       many = long ∙ sym many ∙ all;
       few = omega (arith, long, c.requires.locks);
       thread_is = c.requires.thread;
       live_are = c.requires.live;
+      bytes = c.requires.bytes;
       low = c.requires.low;
       high = c.requires.high;
     } in
     bank_made b codes c.in_ok-address.address.items c.in_ok-first.first.items c.deref-2.result.now c.deref-3.result.now c.deref-4.result.now
-    c.deref-5.result.now (cast_signed w32 (cast_unsigned w32 c.args.resume)) code.items parts (some_long numbers (λ none. absurd (search rules)))
+    (beside c.deref-5.result.now) (cast_signed w32 (cast_unsigned w32 c.args.resume)) code.items parts (some_long numbers (λ none. absurd (search rules)))
     (is_count c.args.log numbers (length c.args.locks.now) c.in_ok-first.first.items c.requires.keeping many
     (subst (λ (n : ℕ). IsConstant 7 n c.in_ok-first.first.items) c.from.ensures c.in_ok-first.ensures.code)) c.deref-2.ensures.value c.deref-3.ensures.value
     (c.deref-4.ensures.value ∙ c.in_ok-emit_locks.ensures
     ∙ ap (λ (is : List Instr). is ++ keep_locks c.args.log 0 codes) c.new-others.ensures.items)
-    (c.deref-5.ensures.value ∙ c.in_ok-slots.ensures ∙ slots_are c.args.log numbers c.args.live.now (length c.args.locks.now) (sym many ∙ all))
+    (ap beside (c.deref-5.ensures.value ∙ c.in_ok-slots.ensures
+    ∙ slots_are c.args.log numbers c.args.written.bytes c.args.live.now (length c.args.locks.now) (sym many ∙ all)))
     (to_z-of_z w32 c.args.resume c.ranges.resume) k)
     c.emit_boundary.ensures
 
@@ -99,7 +125,8 @@ returns-clause-short c =
     IfOk-weaker c.emit_boundary.result _ _
     (λ code k.
     let resume = twos_complement 32 (cast_signed w32 (cast_unsigned w32 c.args.resume)) in
-    let few = boundary_short c.args.log c.deref-2.result.now c.deref-3.result.now c.deref-4.result.now c.deref-5.result.now c.args.live.now resume
+    let few = boundary_short c.args.log c.deref-2.result.now c.deref-3.result.now c.deref-4.result.now c.args.written.bytes c.args.written.opens
+    c.deref-5.result.now c.args.live.now resume
     (subst (λ (is : List Instr). length is ≤ 8) (sym c.deref-2.ensures.value) c.in_ok-address.ensures.short)
     (subst (λ (is : List Instr). length is ≤ 8) (sym c.deref-3.ensures.value) c.in_ok-first.ensures.short) in
     let others : length c.deref-4.result.now ≡ length (keep_locks c.args.log 0 (lists_of c.args.locks.now)) =
@@ -107,6 +134,11 @@ returns-clause-short c =
     (c.deref-4.ensures.value ∙ c.in_ok-emit_locks.ensures
     ∙ ap (λ (is : List Instr). is ++ keep_locks c.args.log 0 (lists_of c.args.locks.now)) c.new-others.ensures.items) in
     let locks = locks_length c.args.log 0 (lists_of c.args.locks.now) in
-    short_as code.items (bank_list c.args.log c.deref-2.result.now c.deref-3.result.now c.deref-4.result.now c.deref-5.result.now c.args.live.now resume)
+    short_as code.items (bank_list c.args.log c.deref-2.result.now c.deref-3.result.now c.deref-4.result.now (record {
+      telling = keep_told (told c.args.log c.args.written.bytes);
+      slots = c.deref-5.result.now;
+      live = c.args.live.now;
+      frame = frame_lines c.args.log c.args.written.opens;
+    }) resume)
     (length c.args.live.now + fixed_words c.args.log + number_words (lists_of c.args.locks.now)) k (omega (arith, few, others, locks)))
     c.emit_boundary.ensures

@@ -2,8 +2,8 @@ use Rattle.compiler_correctness.specs.Laws.{translation_of}
 use Rattle.compiler_correctness.proofs.laws.systems_are_compilations.Goals as goal
 
 pub returns : goal.returns
-returns c y s minimal fewest = record {
-  form = c.compiled_code_has_form.ensures y s minimal fewest;
+returns c y s its = record {
+  form = c.compiled_code_has_form.ensures y s its;
   in_step = c.machines_keep_step.ensures y s;
   never_stuck = c.harts_never_stick.ensures y s;
   delays = c.delays_are_bounded.ensures y s;

@@ -68,27 +68,27 @@ has_home h local d home =
     (sym (slice_get-get_or h.locals local (InRegister 0) home.0) ∙ slice_get-get_or h.locals local d home.0) in
     record { is = at; home = ap is_home (sym at) ∙ home.1 }
 
-pub evaluate-returns-in_ok-copied-in-Local-clause-code : goal.evaluate-returns-in_ok-copied-in-Local-clause-code
-evaluate-returns-in_ok-copied-in-Local-clause-code t c =
+pub evaluate-returns-in_ok-local_code-in-Local-clause-code : goal.evaluate-returns-in_ok-local_code-in-Local-clause-code
+evaluate-returns-in_ok-local_code-in-Local-clause-code t c =
     let w = c.in-Local in
     let h = homes_of c.args.frame.now in
-    let code : List Instr = c.in_ok-copied-in-Local.field-0.items in
+    let code : List Instr = c.in_ok-local_code-in-Local.field-0.items in
     let seen : expr_of c.args.expr.now ≡ e.Local w.local w.kind = ap expr_of w.is in
     let home : AreAtHome h (e.Local w.local w.kind) = subst (λ (z : e.Expr). AreAtHome h z) seen c.requires.home in
     let it = has_home h w.local c.index-frame-local.result home in
     subst (λ (z : e.Expr). IsEvaluation h z c.args.held c.args.rd code) (sym seen)
-    (c.in_ok-copied-in-Local.ensures.code h (e.Local w.local w.kind) c.args.held
-    (c.local_operand-local.ensures.operand h w.local w.kind c.args.held it.is it.home))
+    (c.in_ok-local_code-in-Local.ensures.code h w.local w.kind c.args.held it.is it.home)
 
-pub operand-returns-in-Local-clause-operand : goal.operand-returns-in-Local-clause-operand
-operand-returns-in-Local-clause-operand t c =
+pub operand-returns-in_ok-local-in-Local-clause-operand : goal.operand-returns-in_ok-local-in-Local-clause-operand
+operand-returns-in_ok-local-in-Local-clause-operand t c =
     let w = c.in-Local in
     let h = homes_of c.args.frame.now in
+    let local = c.in_ok-local-in-Local.local in
     let seen : expr_of c.args.expr.now ≡ e.Local w.local w.kind = ap expr_of w.is in
     let home : AreAtHome h (e.Local w.local w.kind) = subst (λ (z : e.Expr). AreAtHome h z) seen c.requires.home in
     let it = has_home h w.local c.index-frame-local.result home in
-    subst (λ (z : e.Expr). IsOperand h z c.args.held c.local_operand.result.register c.local_operand.result.code.items) (sym seen)
-    (c.local_operand.ensures.operand h w.local w.kind c.args.held it.is it.home)
+    subst (λ (z : e.Expr). IsOperand h z c.args.held local.register local.code.items) (sym seen)
+    (c.in_ok-local-in-Local.ensures.operand h w.local w.kind it.is it.home)
 
 -- ---- References
 
@@ -117,9 +117,9 @@ evaluate-returns-in_ok-with_immediate-in-Referent-clause-code t c =
     let seen : expr_of c.args.expr.now ≡ e.Referent w.place w.last w.local = ap expr_of w.is in
     let home : AreAtHome h (e.Referent w.place w.last w.local) = subst (λ (z : e.Expr). AreAtHome h z) seen c.requires.home in
     let it = has_home h w.local c.index-frame-local-in-Referent.result home in
-    let local = c.local_operand-local-in-Referent.result in
+    let local = c.in_ok-local-in-Referent.local in
     let operand : IsOperand h own c.args.held local.register local.code.items =
-    c.local_operand-local-in-Referent.ensures.operand h w.local UnsignedLong c.args.held it.is it.home in
+    c.in_ok-local-in-Referent.ensures.operand h w.local UnsignedLong it.is it.home in
     subst (λ (z : e.Expr). IsEvaluation h z c.args.held c.args.rd code) (sym seen)
     (referent_code h w.place w.last w.local c.args.held c.args.rd code
     (c.in_ok-with_immediate-in-Referent.ensures.code (reference_operation Sub) h own one c.args.held refl refl c.one_less.ensures

@@ -1,23 +1,26 @@
 -- The cuts of its graph make a plan of what was found out of a flat form, and what is emitted for that and linked is the form's translation.
 use Rattle.std.proofs.Common.{refl}
-use Rattle.flat_compile.proofs.Plans.{LinkedPlan, is_translated, marked, plan_at, plan_is, resumable}
+use Rattle.flat_compile.proofs.Plans.{LinkedPlan, at_records, is_translated, marked, plan_at, plan_is, resumable}
 use Rattle.flat_compile.proofs.compile.translate.Goals as goal
 use Rattle.flat_compile.proofs.compile.translate.Goals.{After-marks-1}
 
 pub emit-requires-clause-plan : goal.emit-requires-clause-plan
 emit-requires-clause-plan c =
-    plan_is c.walk_is_discipline.ensures c.args.log c.args.analysis.now c.in_ok-cuts.cuts c.requires c.in_ok-cuts.ensures.cuts c.in_ok-cuts.ensures.places
+    plan_is c.walk_is_discipline.ensures c.args.log c.args.analysis.now c.in_ok-cuts.cuts c.requires.analysis c.requires.assigned_first
+    c.in_ok-cuts.ensures.cuts
+    (at_records c.args.log c.args.analysis.now c.in_ok-cuts.cuts c.requires.analysis c.in_ok-cuts.ensures.placed c.in_ok-cuts.ensures.at_writes)
 
 pub emit-requires-clause-shallow : goal.emit-requires-clause-shallow
-emit-requires-clause-shallow c = c.requires.accepted.shallow
+emit-requires-clause-shallow c = c.requires.analysis.accepted.shallow
 
 linked : (c : After-marks-1) →
     LinkedPlan (plan_at c.args.log c.args.analysis.now c.in_ok-cuts.cuts) c.in_ok-object.object c.in_ok-object.marks c.in_ok-cuts.cuts
 linked c = record {
-  plan = plan_is c.walk_is_discipline.ensures c.args.log c.args.analysis.now c.in_ok-cuts.cuts c.requires c.in_ok-cuts.ensures.cuts c.in_ok-cuts.ensures.places;
+  plan = plan_is c.walk_is_discipline.ensures c.args.log c.args.analysis.now c.in_ok-cuts.cuts c.requires.analysis c.requires.assigned_first
+      c.in_ok-cuts.ensures.cuts
+      (at_records c.args.log c.args.analysis.now c.in_ok-cuts.cuts c.requires.analysis c.in_ok-cuts.ensures.placed c.in_ok-cuts.ensures.at_writes);
   at = refl;
-  minimal = c.in_ok-cuts.ensures.minimal;
-  fewest = c.in_ok-cuts.ensures.fewest;
+  placed = c.in_ok-cuts.ensures.placed;
   code = c.in_ok-code.code;
   is = record {
     is = c.in_ok-code.ensures.code;
@@ -39,7 +42,9 @@ returns-clause-translated c = is_translated (linked (goal.at.returns-clause-tran
 
 pub resume_table-requires-clause-plan : goal.resume_table-requires-clause-plan
 resume_table-requires-clause-plan c =
-    plan_is c.walk_is_discipline.ensures c.args.log c.args.analysis.now c.in_ok-cuts.cuts c.requires c.in_ok-cuts.ensures.cuts c.in_ok-cuts.ensures.places
+    plan_is c.walk_is_discipline.ensures c.args.log c.args.analysis.now c.in_ok-cuts.cuts c.requires.analysis c.requires.assigned_first
+    c.in_ok-cuts.ensures.cuts
+    (at_records c.args.log c.args.analysis.now c.in_ok-cuts.cuts c.requires.analysis c.in_ok-cuts.ensures.placed c.in_ok-cuts.ensures.at_writes)
 
 pub resume_table-requires-clause-marked : goal.resume_table-requires-clause-marked
 resume_table-requires-clause-marked c = marked (linked c)

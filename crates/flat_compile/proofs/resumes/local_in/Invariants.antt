@@ -3,4 +3,4 @@ use Rattle.flat_compile.specs.links.ResumePlacesByNode.{IsLiveIn}
 use Rattle.flat_compile.proofs.resumes.local_in.Given as goal
 
 abbrev pub invariant-loop-local : goal.invariant-loop-local
-invariant-loop-local l = (local : ℕ) → local < l.local → ¬ (IsLiveIn l.colours l.live l.node l.number local)
+invariant-loop-local l = (local : ℕ) → local < l.local → ¬ (IsLiveIn l.colours l.live l.counted l.colour local)

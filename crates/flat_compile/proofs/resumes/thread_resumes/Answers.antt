@@ -14,7 +14,7 @@ pub index-requires : goal.index-requires
 index-requires c = omega (arith, text_below c.args.plan.now c.args.number c.args.part c.requires.own)
 
 pub found-requires-clause-own : goal.found-requires-clause-own
-found-requires-clause-own c = c.requires.nodes c.loop-k.k _ (slice_get-get_or c.args.nodes.now c.loop-k.k 0 c.loop-k-test.true)
+found-requires-clause-own c = c.requires.stands c.loop-k.k _ (slice_get-get_or c.args.stands.now c.loop-k.k _ c.loop-k-test.true)
 
 pub found-requires-clause-knowns : goal.found-requires-clause-knowns
 found-requires-clause-knowns c =
@@ -28,9 +28,9 @@ pub loop-k-preserved : goal.loop-k-preserved
 loop-k-preserved c =
     let p = plan_of c.args.plan.now in
     let t = thread_in p c.args.number c.args.part in
-    let nodes = c.args.nodes.now in
+    let stands = c.args.stands.now in
     let addresses = c.args.addresses.now in
     let k = c.loop-k.k in
-    subst (λ (rs : List Resume). AreFoundAt p t (take (k + 1) nodes) (take (k + 1) addresses) rs) (sym c.in_ok-push.ensures.items)
-    (found_more p t nodes addresses k _ _ c.loop-k.resumes.items c.in_ok-found.field-0 c.loop-k-test.true (omega (arith, c.loop-k-test.true, c.requires.count))
-    c.in_ok-found.ensures.node c.in_ok-found.ensures.address c.in_ok-found.ensures.found c.loop-k.invariant)
+    subst (λ (rs : List Resume). AreFoundAt p t (take (k + 1) stands) (take (k + 1) addresses) rs) (sym c.in_ok-push.ensures.items)
+    (found_more p t stands addresses k _ _ c.loop-k.resumes.items c.in_ok-found.field-0 c.loop-k-test.true (omega (arith, c.loop-k-test.true, c.requires.count))
+    c.in_ok-found.ensures.stand c.in_ok-found.ensures.address c.in_ok-found.ensures.found c.loop-k.invariant)

@@ -5,4 +5,4 @@ use Rattle.flat_compile.proofs.resumes.thread_resumes.Given as goal
 
 abbrev pub invariant-loop-k : goal.invariant-loop-k
 invariant-loop-k l =
-    AreFoundAt (plan_of l.plan) (thread_in (plan_of l.plan) l.number l.part) (take l.k l.nodes) (take l.k l.addresses) l.resumes.items
+    AreFoundAt (plan_of l.plan) (thread_in (plan_of l.plan) l.number l.part) (take l.k l.stands) (take l.k l.addresses) l.resumes.items

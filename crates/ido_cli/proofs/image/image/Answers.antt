@@ -9,7 +9,8 @@ use Rattle.ido_cli.proofs.image.image.Goals as goal
 pub write_image-requires-clause-lives : goal.write_image-requires-clause-lives
 write_image-requires-clause-lives c =
     let kept = c.in_ok-kept.kept.items in
-    let s = steps_in c.args.life.now in (
+    let s = steps_in c.args.life.now in
+    c.requires.tells (length c.deref-2.result.now) (
       omega (arith, some_life kept s c.in_ok-kept.ensures, ap length c.deref-2.ensures.value),
       omega (arith, as_many_lives kept s c.in_ok-kept.ensures, ap length c.deref-2.ensures.value, c.requires.lives),
     )

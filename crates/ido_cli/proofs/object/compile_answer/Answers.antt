@@ -26,5 +26,6 @@ returns-in_ok-output-in-Ok c =
 
 pub returns-in-Err : goal.returns-in-Err
 returns-in-Err c =
-    IfOk-weaker c.source_refused.result _ _ (λ said told. compile_refused c.args.source.now c.in-Err.error c.in-Err.ensures said.status said.output.items told)
+    IfOk-weaker c.source_refused.result _ _
+    (λ said told. compile_refused c.args.log c.args.source.now c.in-Err.error c.in-Err.ensures said.status said.output.items told)
     c.source_refused.ensures

@@ -30,7 +30,7 @@ returns-in-Ok c =
     let many : c.len.result ≡ length y.object.code.items = omega (arith, c.len.ensures, c.args.compiled.now.translated.object.code.ok) in
     IfOk-weaker c.script_answer.result _ _
     (λ said is.
-    script_run_answer c.args.input.now c.args.rest.now (flat_of x.flat) y.object.log _ c.requires.rest c.requires.compiled.translated.log (many ∙ threads)
+    script_run_answer c.args.input.now c.args.rest.now (flat_of x.flat) y.object.log _ c.requires.rest (many ∙ threads)
     c.requires.compiled.accepted
     (Says c.args.asked (source_of c.args.input.now)) (map scripts.line_of c.in-Ok.script.lines.items) (translation_in x)
     said.status said.output.items c.in-Ok.ensures.lines
@@ -56,7 +56,7 @@ returns-in-Err c =
     let many : c.len.result ≡ length y.object.code.items = omega (arith, c.len.ensures, c.args.compiled.now.translated.object.code.ok) in
     IfOk-weaker c.script_refused.result _ _
     (λ said both.
-    script_fault_answer c.args.input.now c.args.rest.now (flat_of x.flat) y.object.log _ c.requires.rest c.requires.compiled.translated.log (many ∙ threads)
+    script_fault_answer c.args.input.now c.args.rest.now (flat_of x.flat) y.object.log _ c.requires.rest (many ∙ threads)
     c.requires.compiled.accepted
     (Says c.args.asked (source_of c.args.input.now)) (scripts.refused_fault c.in-Err.error) said.status said.output.items both.0
     c.in-Err.ensures.refused both.1)

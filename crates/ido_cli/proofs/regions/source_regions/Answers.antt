@@ -37,8 +37,11 @@ pub returns-in_err-output : goal.returns-in_err-output
 returns-in_err-output c =
     by_error (IsRegionsAnswer c.args.least c.args.source.now) error.Memory c.from_residual-in_err-output.result c.from_residual-in_err-output.ensures.1 tt
 
-pub translate-requires : goal.translate-requires
-translate-requires c = c.in_ok-analysis.ensures.answer.1
+pub translate-requires-clause-analysis : goal.translate-requires-clause-analysis
+translate-requires-clause-analysis c = c.in_ok-analysis.ensures.answer.1
+
+pub translate-requires-clause-assigned_first : goal.translate-requires-clause-assigned_first
+translate-requires-clause-assigned_first c = λ frame. cc frame
 
 pub returns-in_err-stretches : goal.returns-in_err-stretches
 returns-in_err-stretches c =
@@ -93,7 +96,7 @@ returns c =
       straight = straight;
       held = subst (λ (x : Flat). AreAllSetsOf (flat_of x) analysis.held) same c.in_ok-analysis.ensures.answer.1.held;
       told = told;
-      none_fewer = are_least b c.args.least (lowered flat) stretches is.fewest told;
+      none_fewer = are_least b c.args.least (lowered flat) stretches is.placed.fewest told;
       is =
           subst (λ (x : Flat). c.in_ok-output.output.items ≡ regions c.args.source.now (lowered (flat_of x)) b straight (flat_of x).threads) same
           c.in_ok-output.ensures;

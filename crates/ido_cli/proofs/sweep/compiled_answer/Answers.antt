@@ -24,7 +24,7 @@ returns-in-Ok g c =
     let many : c.len.result ≡ length y.object.code.items = omega (arith, c.len.ensures, y.object.code.ok) in
     IfOk-weaker c.script_answer.result _ _
     (λ said is.
-    swept_script c.args.input.now c.args.rest.now (flat_of x.flat) y.object.log _ c.requires.rest c.requires.compiled.translated.log (many ∙ threads)
+    swept_script c.args.input.now c.args.rest.now (flat_of x.flat) y.object.log _ c.requires.rest (many ∙ threads)
     c.requires.compiled.accepted
     (lines_in c.in-Ok.script) (translation_in x) said.status said.output.items c.in-Ok.ensures.lines
     (record {
@@ -44,7 +44,7 @@ returns-in-Err g c =
     let many : c.len.result ≡ length y.object.code.items = omega (arith, c.len.ensures, y.object.code.ok) in
     IfOk-weaker c.script_refused.result _ _
     (λ said both.
-    swept_fault c.args.input.now c.args.rest.now (flat_of x.flat) y.object.log _ c.requires.rest c.requires.compiled.translated.log (many ∙ threads)
+    swept_fault c.args.input.now c.args.rest.now (flat_of x.flat) y.object.log _ c.requires.rest (many ∙ threads)
     c.requires.compiled.accepted
     (scripts.refused_fault c.in-Err.error) said.status said.output.items both.0 c.in-Err.ensures.refused both.1)
     (both_ok c.script_refused.result _ _ c.script_refused.ensures.fault c.script_refused.ensures.said)

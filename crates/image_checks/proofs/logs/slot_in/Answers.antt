@@ -1,5 +1,5 @@
 use Rattle.image_checks.proofs.LoggedWords.{above_slot, slot_within}
-use Rattle.log_schemes.proofs.Public.{registers_exist}
+use Rattle.image_checks.proofs.LoggedWords.{first_slots}
 use Rattle.image_checks.proofs.logs.slot_in.Goals as goal
 use Rattle.std.proofs.Common.{◌∙◌, ◌≡◌, ap, arith, length, subst, sym, ℕ, ◌<◌, ◌≤◌, ◌-◌, ◌/◌}
 use Rattle.ido_base.specs.Layout.{logs_base}
@@ -15,7 +15,7 @@ pub logged-requires-clause-within : goal.logged-requires-clause-within
 logged-requires-clause-within c =
     subst (λ (address : ℕ). (address - logs_base) / 8 < length c.args.logs.now) (sym c.slot_at.ensures)
     (slot_within c.args.log c.args.thread c.args.bank c.from.result (length c.args.logs.now) c.requires.bank
-    (subst (λ (n : ℕ). n < bank_slots c.args.log) (sym c.from.ensures) (registers_exist c.args.log c.args.slot c.requires.slot)) c.requires.log)
+    (subst (λ (n : ℕ). n < bank_slots c.args.log) (sym c.from.ensures) (first_slots c.args.log c.args.slot c.requires.slot)) c.requires.log)
 
 pub returns : goal.returns
 returns c =

@@ -31,6 +31,8 @@ returns c = λ locks may.
         locks = locks;
         live = k.live.now;
         resume = z;
+        written = k.written.bytes;
+        opens = k.written.opens;
       }) codes c.in_ok-code.code.items) (same_number _ c.args.resume c.distance.ensures c.requires.near) (c.in_ok-code.ensures.code locks many);
       quiet = subst (λ (kept : KeptLocks). AllByRecursion IsQuiet (codes_of kept)) c.requires.locks c.requires.quiet;
     })

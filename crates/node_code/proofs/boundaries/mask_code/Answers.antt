@@ -26,6 +26,8 @@ returns c = λ locks may.
       locks = ls;
       live = k.live.now;
       resume = pos c.args.resume;
+      written = k.written.bytes;
+      opens = k.written.opens;
     }) [] c.in_ok-code.code.items) (sym are)
     (record {
       short = omega (arith, short, words);
@@ -35,6 +37,8 @@ returns c = λ locks may.
         locks = locks_in mask;
         live = k.live.now;
         resume = z;
+        written = k.written.bytes;
+        opens = k.written.opens;
       }) [] c.in_ok-code.code.items) (same_number _ c.args.resume c.distance.ensures c.requires.near) c.in_ok-code.ensures.code;
       quiet = tt;
     }))

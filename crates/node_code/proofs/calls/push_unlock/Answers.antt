@@ -21,7 +21,7 @@ returns c =
       appended = e;
       is = λ locks lock may.
           subst (λ (last : Bool).
-          IsUnlockPiece (boundary_of k locks bytes) (λ x. AsksNumber x lock numbering) (KeepsFrom k locks) (kept_words k + length numbering) lock
+          IsUnlockPiece (boundary_of k locks bytes) (λ around x. AsksNumber around x lock numbering) (KeepsFrom k locks) (kept_words k + length numbering) lock
           (unlock_items numbering last c.deref.result.now))
           (sym (c.is_none.ensures locks may))
           (is_unlock (boundary_of k locks bytes) (codes_of k.locks) numbering c.deref.result.now lock c.requires.some c.requires.quiet_number refl

@@ -1,11 +1,14 @@
-use Rattle.std.proofs.Common.{List, sym, subst}
+use Rattle.std.proofs.Common.{List, ℕ, ◌≡◌, ◌∙◌, ap, refl, sym, subst, Bool, not, None}
+use Rattle.std.specs.List.{list_all}
+use Rattle.log_schemes.specs.Schemes.{may_keep}
+use Rattle.boundary_code.specs.declared.written.Written.{Written}
 use Rattle.std.specs.Prelude.{Vec}
 use Rattle.std.specs.Global.{Global}
 use Rattle.std.proofs.lemmas.Result.{on_ok_weaker}
 use Rattle.rv64_isa.specs.declared.instr.Instr.{Instr}
 use Rattle.boundary_code.specs.Boundaries.{lists_of}
-use Rattle.rv64_codegen.specs.links.Threads.{AreNumbersOf}
-use Rattle.rv64_codegen.proofs.NodePieces.{kept_live, kept_thread}
+use Rattle.rv64_codegen.specs.links.Threads.{AreNumbersOf, IsKeptFor, choices_of, opens_at, plan_in}
+use Rattle.rv64_codegen.proofs.NodePieces.{kept_live, kept_thread, live_keepable, none_written, twice}
 use Rattle.rv64_codegen.proofs.actions.push_held_lock.Goals as goal
 
 pub kept-kept-requires-clause-numbers : goal.kept-kept-requires-clause-numbers
@@ -17,11 +20,7 @@ pub push_lock-requires-clause-keeping : goal.push_lock-requires-clause-keeping
 push_lock-requires-clause-keeping c = c.kept-kept.ensures.keeping
 
 pub push_lock-requires-clause-thread : goal.push_lock-requires-clause-thread
-push_lock-requires-clause-thread c = kept_thread c.args.thread.now c.requires.own.open_is c.args.next c.kept-kept.result c.kept-kept.ensures
-
-pub push_lock-requires-clause-live : goal.push_lock-requires-clause-live
-push_lock-requires-clause-live c =
-    kept_live c.args.thread.now c.requires.own.open_is c.args.next c.kept-kept.result c.requires.own.own c.kept-kept.ensures
+push_lock-requires-clause-thread c = kept_thread c.args.thread.now c.requires.own.open_is c.args.next _ _ c.kept-kept.result c.kept-kept.ensures
 
 pub push_lock-requires-clause-room : goal.push_lock-requires-clause-room
 push_lock-requires-clause-room c = c.kept-kept.ensures.room
@@ -29,5 +28,23 @@ push_lock-requires-clause-room c = c.kept-kept.ensures.room
 pub push_lock-requires-clause-quiet : goal.push_lock-requires-clause-quiet
 push_lock-requires-clause-quiet c = c.kept-kept.ensures.quiet
 
+pub push_lock-requires-clause-live : goal.push_lock-requires-clause-live
+push_lock-requires-clause-live c =
+    let x = c.args.thread.now in
+    let o = c.requires.own.open_is in
+    kept_live x o c.args.next _ _ c.kept-kept.result
+    (ap (λ (rs : List ℕ). list_all (may_keep (plan_in x).log) rs) c.live_at.ensures ∙ live_keepable x o c.args.next c.requires.own.own) c.kept-kept.ensures
+
+pub push_lock-requires-clause-bytes : goal.push_lock-requires-clause-bytes
+push_lock-requires-clause-bytes c =
+    none_written c.args.thread.now c.requires.own.open_is c.kept-kept.result _ c.kept-kept.ensures.written_is refl
+
 pub returns : goal.returns
-returns c = on_ok_weaker c.push_lock.result (λ own. (c.kept-kept.result, c.kept-kept.ensures, own)) c.push_lock.ensures
+returns c =
+    let x = c.args.thread.now in
+    let k = c.kept-kept.result in
+    let written : Bool → Written = λ b. record { bytes = None; opens = b } in
+    let live = subst (λ (rs : List ℕ). IsKeptFor x c.args.next rs (written (not c.holds_some.result)) k) c.live_at.ensures c.kept-kept.ensures in
+    let opens : not c.holds_some.result ≡ opens_at x c.args.node = ap not c.holds_some.ensures ∙ twice (opens_at x c.args.node) in
+    let is_kept = subst (λ (b : Bool). IsKeptFor x c.args.next ((choices_of x).live c.args.next) (written b) k) opens live in
+    on_ok_weaker c.push_lock.result (λ own. (k, is_kept, own)) c.push_lock.ensures

@@ -9,7 +9,7 @@ use Rattle.rv64_codegen.specs.Plans.{plan_of}
 use Rattle.rv64_codegen.specs.links.LiveRegisters.{AreLists}
 use Rattle.rv64_codegen.proofs.ChosenBoundaries.{read_get}
 use Rattle.rv64_codegen.proofs.Homes.{same_some}
-use Rattle.rv64_codegen.proofs.PlannedThreads.{as_many, colours_at, part_order, part_end}
+use Rattle.rv64_codegen.proofs.PlannedThreads.{as_many, colours_at, few_threads, part_order, part_end}
 use Rattle.rv64_codegen.proofs.emission.emit_thread.Goals as goal
 use Rattle.rv64_codegen.proofs.emission.emit_thread.Goals.{After-deref, After-index-part, After-index-text}
 use Rattle.c_tree.specs.Flats.{thread_of}
@@ -51,9 +51,16 @@ emit_from-requires-clause-names c =
     (names_of c.in_ok-names.names.items) (text_there (goal.at.emit_from-requires-clause-names c).After-index-text) c.deref-3.ensures.value
     c.deref-4.ensures.value c.in_ok-names.ensures
 
-pub homes-requires : goal.homes-requires
-homes-requires c =
-    λ colour among. c.requires.plan.registers.exist c.args.number colour c.deref.result.now (coloured (goal.at.homes-requires c).After-deref) among
+pub overflow_cast-number : goal.overflow_cast-number
+overflow_cast-number c = omega (arith, few_threads (plan_of c.args.plan.now) c.requires.plan, c.requires.number)
+
+pub homes-requires-clause-thread : goal.homes-requires-clause-thread
+homes-requires-clause-thread c = omega (arith, few_threads (plan_of c.args.plan.now) c.requires.plan, c.requires.number)
+
+pub homes-requires-clause-colours : goal.homes-requires-clause-colours
+homes-requires-clause-colours c =
+    λ colour among. c.requires.plan.registers.exist c.args.number colour c.deref.result.now (coloured (goal.at.homes-requires-clause-colours c).After-deref)
+    among
 
 pub live_lists-requires-clause-order : goal.live_lists-requires-clause-order
 live_lists-requires-clause-order c =
@@ -72,7 +79,7 @@ live_lists-requires-clause-end c =
 pub emit_from-requires-clause-homes : goal.emit_from-requires-clause-homes
 emit_from-requires-clause-homes c =
     λ colours at. c.deref-5.ensures.value ∙ c.in_ok-homes.ensures
-    ∙ ap (λ (cs : List ℕ). map home_of_colour cs)
+    ∙ ap (λ (cs : List ℕ). map (home_of_colour c.args.plan.now.log c.args.number) cs)
     (same_some _ _ _ (coloured (goal.at.emit_from-requires-clause-homes c).After-deref) at)
 
 pub emit_from-requires-clause-live : goal.emit_from-requires-clause-live

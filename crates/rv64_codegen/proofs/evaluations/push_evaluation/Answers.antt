@@ -13,6 +13,6 @@ returns c =
       piece = a.piece;
       appended = a.appended;
       is = is_evaluation (homes_of c.args.frame.now) (lvalue_of c.args.target.now) (expr_of c.args.value.now.expr) c.in_ok-code.code.items
-          a.piece c.in_ok-code.ensures
+          c.in_ok-code.ensures a.piece
           (subst (λ (is : List Instr). IsComputing is a.piece) c.deref.ensures.value a.is);
     }) c.push_computing.ensures

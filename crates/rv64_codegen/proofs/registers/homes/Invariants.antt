@@ -4,4 +4,4 @@ use Rattle.thread_code.specs.Plans.{home_of_colour}
 
 abbrev pub invariant-loop-colour : goal.invariant-loop-colour
 invariant-loop-colour l =
-    l.homes.items ++ map home_of_colour (drop l.colour-index l.colours) ≡ map home_of_colour l.colours
+    l.homes.items ++ map (home_of_colour l.fn.log l.fn.thread) (drop l.colour-index l.colours) ≡ map (home_of_colour l.fn.log l.fn.thread) l.colours

@@ -1,8 +1,5 @@
-use Rattle.std.proofs.Common.{◌≤◌, arith, ◌∙◌, ◌-◌, ℕ, List, [], length, refl, subst, sym}
-use Rattle.std.specs.Prelude.{Vec}
-use Rattle.std.specs.Global.{Global}
+use Rattle.std.proofs.Common.{◌≤◌, ℕ, List, [], length, refl, subst, sym}
 use Rattle.std.specs.List.{AllByRecursion}
-use Rattle.std.proofs.lemmas.List.{get_or-map}
 use Rattle.rv64_isa.specs.declared.instr.Instr.{Instr}
 use Rattle.boundary_code.specs.Boundaries.{lists_of, words_beside}
 use Rattle.expr_code.specs.EvaluationCode.{Homes}
@@ -30,13 +27,13 @@ returns c =
     record {
       log_is = refl;
       thread_is = refl;
-      live_is = c.deref.ensures.value ∙ sym (get_or-map (λ (v : Vec ℕ Global). v.items) x.live.now (node - x.part.first) _ []
-          (omega (arith, o.lists.count, own.own.from_first, own.own.below_end)));
+      live_is = refl;
+      written_is = refl;
       keeping = c.locks.ensures.keeping;
       locks_are = c.locks.ensures.held;
-      leave = λ locals registers may.
-          subst (λ (cs : List (List Instr)). LeaveLocks p.log x.number (locks_before p t locals node) cs registers) same
-          (leave_them p t o.plan o.thread o.formed node own.own codes are locals registers may);
+      leave = λ locals around registers may.
+          subst (λ (cs : List (List Instr)). LeaveLocks p.log x.number (locks_before p t locals node) cs around registers) same
+          (leave_them p t o.plan o.thread o.formed node own.own codes are locals around registers may);
       few = subst (λ (cs : List (List Instr)). words_beside p.log cs ≤ boundary_words p.log (held_names_before p t node)) same
           (few_words p t o.plan o.thread o.formed node own.own codes are);
       room = subst (λ (cs : List (List Instr)). length cs ≤ 16) same

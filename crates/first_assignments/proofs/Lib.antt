@@ -1,0 +1,9 @@
+mod FirstReads
+mod NodeNames
+mod LiveLocals
+mod ReachableFunctions
+mod KnownReads
+mod ScopedReads
+mod InlinedReads
+mod AcceptedReads
+mod Worked

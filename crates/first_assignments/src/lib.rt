@@ -1,0 +1,4 @@
+//! Whether locals are assigned before they are read: laws of accepted texts alone.
+#![tactic(auto)]
+
+pub mod laws;
