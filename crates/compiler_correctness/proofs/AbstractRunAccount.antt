@@ -1,4 +1,7 @@
 -- The abstract run's config, in the words of the machine's account: what is kept, what is now, and where all harts are settled.
+use Rattle.recovered_threads.specs.RecordDescriptions.{DescribesAs}
+use Rattle.thread_code.specs.Programs.{at_chosen}
+use Rattle.std.proofs.Common.{Bool, false}
 use Rattle.std.proofs.Common.{◌≡◌, inl, inr, ℕ, zero, suc, ◌<◌, [], ◌∷◌, ◌++◌, length, ap, ap₂, arith, sym, ◌∙◌, subst, true, ◌≢◌, ◌&&◌, ◌==◌}
 use Rattle.std.proofs.lemmas.Bool.{and_parts, eqb-true, cases_lt, true≢false}
 use Rattle.log_schemes.specs.Layout.{point_at}
@@ -127,3 +130,16 @@ pub points_name : (p : Plan) (code : Code p) (s : FlowState) (r : Record) → De
 points_name p code s r (between none point) some = absurd (some point)
 points_name p code s r (inside holds i) some =
     (code.is.resumes (resume_of r.point)).1 (resumed_there p code i.graph_thread.at i.place (resume_of r.point) i.own i.resumes)
+
+-- ---- The same of a record whose thread may be late
+
+pub none_points_as : (p : Plan) (code : Code p) (s : FlowState) (late : Bool) (r : Record) → DescribesAs p code s late r →
+    holds_none s.holders code.thread.number ≡ true → r.point ≡ 0
+none_points_as p code s false r describes e = none_points p code s r describes e
+none_points_as p code s true r past e = absurd (true≢false (sym e ∙ past.holds))
+
+pub points_name_as : (p : Plan) (code : Code p) (s : FlowState) (late : Bool) (r : Record) → DescribesAs p code s late r → r.point ≢ 0 →
+    Contains code.program.resumes (resume_of r.point)
+points_name_as p code s false r describes some = points_name p code s r describes some
+points_name_as p code s true r past some =
+    subst (Contains code.program.resumes) (sym past.resumes) ((code.is.resumes (code.is.places.core past.node)).1 (at_chosen past.node past.own_node past.chosen))

@@ -22,7 +22,7 @@ use Rattle.crash_simulation.specs.Systems.{System, IsSystem, thread_count}
 use Rattle.log_schemes.specs.declared.log.Log.{Log}
 use Rattle.boundary_code.specs.Boundaries.{frame_lines}
 use Rattle.crash_simulation.specs.StepsToMark.{most_ahead}
-use Rattle.crash_simulation.specs.ThreadGhosts.{IsRunningThread, InPhase, on_fragment, at_core}
+use Rattle.crash_simulation.specs.ThreadGhosts.{IsRunningThread, InPhase, on_fragment, at_core, at_past}
 use Rattle.crash_simulation.specs.SimulationRelation.{Simulates}
 use Rattle.crash_simulation.specs.Laws.{EventsStand}
 use Rattle.crash_simulation.specs.InstructionSteps.{FragmentsStep, CoresStep, LocalStoresStep, Nears, begins_step, waits, is_nearer, halts}
@@ -94,6 +94,7 @@ module _ (fragments_step : FragmentsStep) (cores_step : CoresStep) (local_stores
           (stands.each h below).graph_thread → ahead w stands ≤ most_ahead y h
       running (on_fragment exit steps o) = let most = o.soon.1 in let same = number in omega (arith, most, same)
       running (at_core o) = let most = o.soon.1 in let same = number in omega (arith, most, same)
+      running (at_past o) = let most = o.soon.1 in let same = number in omega (arith, most, same)
 
       by : (p : Phase) → hart.phase ≡ p → IsStopped w h ⊎ (ahead w stands ≤ most_ahead y h)
       by Run e = inr (running (of Run e))

@@ -30,7 +30,7 @@ use Rattle.crash_simulation.specs.ThreadGhosts.{ThreadGhost}
 use Rattle.crash_simulation.specs.SimulationRelation.{SimulatesBut, Simulates}
 use Rattle.crash_simulation.specs.InstructionSteps.{IsUnlocked, was_unlocked, begins_unlock, FragmentsStep, CoresStep, LocalStoresStep}
 use Rattle.crash_simulation.specs.AccountRelation.{SimulatesLives, beginning_after, first_beginning}
-use Rattle.crash_simulation.proofs.Public.{resumed, AreFurthest, counted_by, begun_by, begun_in, Continues, event_goes_on, first_life, first_origin}
+use Rattle.crash_simulation.proofs.Public.{resumed, AreFurthest, counted_by, begun_by, begun_in, AreOnTime, Continues, event_goes_on, first_life, first_origin}
 use Rattle.crash_simulation.proofs.Public.{has_begun, HasBegun}
 use Rattle.crash_simulation.proofs.Public.{life_begins, life_goes_on, none_begins, none_more, released_by, start_counted}
 use Rattle.compiler_correctness.specs.Translations.{Translation, source}
@@ -161,6 +161,10 @@ module _ (fragments_step : FragmentsStep) (cores_step : CoresStep) (local_stores
     stays_last n mutex g other true l = last_stays from steps.begun (g ∷ []) n mutex (none_of_other g n 1 other) l
     stays_last n mutex g other false l = subst (λ (ts : List ℕ). LastUnlocks from ts n mutex) (sym (append-nil steps.begun)) l
 
+    -- no thread is late
+    on_time : (event : Event) → AreOnTime y s w event old old
+    on_time event n below = (going.carried.is.counted.each n below).on_time
+
     module _ (was : InStep y s w old from steps.begun) where
       own_last : (h mutex : ℕ) (begun : Bool) → IsUnlocked z h begun (old.ghosts h).giving mutex →
           LastUnlocks from (steps.begun ++ begun_by begun h []) h mutex
@@ -176,7 +180,7 @@ module _ (fragments_step : FragmentsStep) (cores_step : CoresStep) (local_stores
       then_unlocked (Step h) new on keeps n mutex gives = elim (same_or_other n h) [
         | inl same ↦
             subst (λ (k : ℕ). LastUnlocks from (steps.begun ++ begun_in y w (Step k)) n mutex) same
-            (own_last n mutex (passes_mark y.runs.marks y.runs.program w n) (on.unlocked n mutex (ap Step (sym same)) gives))
+            (own_last n mutex (passes_mark y.runs.marks y.runs.program w n) ((on.counted (on_time (Step h))).unlocked n mutex (ap Step (sym same)) gives))
         | inr other ↦
             stays_last n mutex h other (passes_mark y.runs.marks y.runs.program w h)
             (was.unlocked n mutex (sym (on.others n (λ e. other (let same : h ≡ n = cc in sym same))) ∙ gives))
@@ -195,9 +199,9 @@ module _ (fragments_step : FragmentsStep) (cores_step : CoresStep) (local_stores
           let begun = begun_after y w event keeps steps in
           let more = goes_on from steps.begun (begun_in y w event) was.runs in
           record {
-            runs = ap (m.runs_from from) begun ∙ (more.runs ∙ (ap (λ (x : m.State). m.runs_from x (begun_in y w event)) was.leads ∙ on.runs));
+            runs = ap (m.runs_from from) begun ∙ (more.runs ∙ (ap (λ (x : m.State). m.runs_from x (begun_in y w event)) was.leads ∙ (on.counted (on_time event)).runs));
             leads = ap (m.after_from from) begun
-                ∙ (more.after ∙ (ap (λ (x : m.State). m.after_from x (begun_in y w event)) was.leads ∙ sym on.source));
+                ∙ (more.after ∙ (ap (λ (x : m.State). m.after_from x (begun_in y w event)) was.leads ∙ sym (on.counted (on_time event)).source));
             furthest = on.tried was.furthest;
             unlocked = λ n mutex gives.
                 subst (λ (ts : List ℕ). LastUnlocks from ts n mutex) (sym begun) (then_unlocked event _ on keeps n mutex gives);

@@ -1,4 +1,5 @@
 -- Points and records of threads: points are those of records that describe them, records the locks that threads hold, and between sections there is no point.
+use Rattle.recovered_threads.specs.RecordDescriptions.{DescribesAs}
 use Rattle.std.proofs.Common.{◌≡◌, ◌≢◌, ◌⊎◌, inl, inr, ℕ, ◌<◌, List, [], ap, sym, ◌∙◌, subst, Bool, false, ◌↔◌, ◌∷◌, ◌++◌, ap₂, arith, true, Option, Some, refl}
 use Rattle.std.proofs.Common.{length, slice_index_or, if◌then◌else◌, slice_get}
 use Rattle.std.specs.List.{Contains}
@@ -17,9 +18,9 @@ use Rattle.crash_simulation.specs.AbstractRuns.{kept_of, now_of}
 use Rattle.crash_simulation.specs.ThreadGhosts.{ThreadGhost, InPhase}
 use Rattle.crash_simulation.specs.SimulationRelation.{Simulates, IsGiving, AreHeld, AreLocked, gathering, gathered, records_of}
 use Rattle.crash_simulation.specs.InstructionSteps.{Site}
-use Rattle.crash_simulation.proofs.Public.{left, left_describes, left_point, log_of, orderly, unlocked_last, takes_move, as_source, view, same_number}
+use Rattle.crash_simulation.proofs.Public.{lates, left, left_describes, left_point, log_of, orderly, unlocked_last, takes_move, as_source, view, same_number}
 use Rattle.crash_simulation.proofs.Public.{begins_at, giving_of, resumed, phase_of, schedule_is}
-use Rattle.compiler_correctness.proofs.AbstractRunAccount.{points_name, now_runs, now_is, kept_holders, none_points, kept_runs}
+use Rattle.compiler_correctness.proofs.AbstractRunAccount.{points_name_as, now_runs, now_is, kept_holders, none_points, none_points_as, kept_runs}
 use Rattle.std.proofs.lemmas.Option.{slice_get_within}
 use Rattle.ido_base.specs.Locks.{has_lock, holds_none}
 use Rattle.c_tree.specs.Source as m
@@ -65,22 +66,22 @@ module _ (y : System) (s : IsSystem y) (w : World) (stands : Simulates y s w) (n
       (s.codes.number n below) (stands.caught_up n below (λ e. e))
 
   -- the new record describes the kept state where it is the one that is kept, and else the state now
-  new_describes : Describes y.plan thread_code kept thread_ghost.new ⊎ Describes y.plan thread_code present thread_ghost.new
+  new_describes : DescribesAs y.plan thread_code kept thread_ghost.late thread_ghost.new ⊎ Describes y.plan thread_code present thread_ghost.new
   new_describes = elim (cases_Bool thread_ghost.committed) [
     | inl done ↦
-        inl (subst (λ (b : Bool). Describes y.plan thread_code kept (if b then thread_ghost.new else thread_ghost.old)) done
+        inl (subst (λ (b : Bool). DescribesAs y.plan thread_code kept thread_ghost.late (if b then thread_ghost.new else thread_ghost.old)) done
         (stands.each n below).records.describes)
     | inr not_yet ↦ inr ((stands.each n below).records.will_describe not_yet)
   ]
 
-  old_describes : thread_ghost.committed ≡ false → Describes y.plan thread_code kept thread_ghost.old
+  old_describes : thread_ghost.committed ≡ false → DescribesAs y.plan thread_code kept thread_ghost.late thread_ghost.old
   old_describes not_yet =
-      subst (λ (b : Bool). Describes y.plan thread_code kept (if b then thread_ghost.new else thread_ghost.old)) not_yet (stands.each n below).records.describes
+      subst (λ (b : Bool). DescribesAs y.plan thread_code kept thread_ghost.late (if b then thread_ghost.new else thread_ghost.old)) not_yet (stands.each n below).records.describes
 
   -- what is so of all such records is so of the live point, and of the durable one
-  module _ (P : ℕ → Type 0) (of_kept : (r : Record) → Describes y.plan thread_code kept r → P r.point)
+  module _ (P : ℕ → Type 0) (of_kept : (r : Record) → DescribesAs y.plan thread_code kept thread_ghost.late r → P r.point)
       (of_now : (r : Record) → Describes y.plan thread_code present r → P r.point) where
-    new_is : Describes y.plan thread_code kept thread_ghost.new ⊎ Describes y.plan thread_code present thread_ghost.new → P thread_ghost.new.point
+    new_is : DescribesAs y.plan thread_code kept thread_ghost.late thread_ghost.new ⊎ Describes y.plan thread_code present thread_ghost.new → P thread_ghost.new.point
     new_is (inl describes) = of_kept thread_ghost.new describes
     new_is (inr describes) = of_now thread_ghost.new describes
 
@@ -104,15 +105,15 @@ module _ (y : System) (s : IsSystem y) (w : World) (stands : Simulates y s w) (n
   abbrev Names : ℕ → Type 0
   Names point = point ≢ 0 → Contains (slice_index_or y.runs.resumes n []) (resume_of point)
 
-  names : (state : FlowState) (r : Record) → Describes y.plan thread_code state r → Names r.point
-  names state r describes some =
-      subst (λ (addresses : List ℕ). Contains addresses (resume_of r.point)) resumes_are (points_name y.plan thread_code state r describes some)
+  names : (state : FlowState) (late : Bool) (r : Record) → DescribesAs y.plan thread_code state late r → Names r.point
+  names state late r describes some =
+      subst (λ (addresses : List ℕ). Contains addresses (resume_of r.point)) resumes_are (points_name_as y.plan thread_code state late r describes some)
 
   pub live_names : live_at w.words (point_at w.log n) ≢ 0 → Contains (slice_index_or y.runs.resumes n []) (resume_of (live_at w.words (point_at w.log n)))
-  live_names = of_live Names (names kept) (names present)
+  live_names = of_live Names (names kept thread_ghost.late) (names present false)
 
   pub durable_names : durable_point w.log w.words n ≢ 0 → Contains (slice_index_or y.runs.resumes n []) (resume_of (durable_point w.log w.words n))
-  durable_names = of_durable Names (names kept) (names present)
+  durable_names = of_durable Names (names kept thread_ghost.late) (names present false)
 
 -- ---- The records of threads are the locks that they hold after the kept steps
 
@@ -130,12 +131,12 @@ module _ (y : System) (s : IsSystem y) (w : World) (stands : Simulates y s w) wh
       subst (λ (locks : List ℕ). (has_lock locks lock ≡ true) ↔ (slice_get (kept_of y b).holders lock ≡ Some (Some n))) (sym (recorded_is n below))
       (subst (λ (k : ℕ). (has_lock (locks_of (left y s w stands n)) lock ≡ true) ↔ (slice_get (kept_of y b).holders lock ≡ Some (Some k)))
       (s.codes.number n below)
-      (locks_are_held y.plan (s.codes.each n below) (kept_of y b) (left y s w stands n) s.plan (orderly y s b) (left_describes y s w stands n below) lock))
+      (locks_are_held y.plan (s.codes.each n below) (kept_of y b) (lates y s w stands n) (left y s w stands n) s.plan (orderly y s b) (left_describes y s w stands n below) lock))
 
   records_apart : (g h lock : ℕ) → g < thread_count y → h < thread_count y → g ≢ h → has_lock (record_of w.log w.words h) lock ≡ true →
       has_lock (record_of w.log w.words g) lock ≡ false
   records_apart g h lock gb hb other mine = false_from_ne_true (has_lock (record_of w.log w.words g) lock) (λ also.
-      other (records_are_apart y.plan s.codes (kept_of y b) (left y s w stands) s.plan (orderly y s b) (left_describes y s w stands) g h lock gb hb
+      other (records_are_apart y.plan s.codes (kept_of y b) (lates y s w stands) (left y s w stands) s.plan (orderly y s b) (left_describes y s w stands) g h lock gb hb
       (ap (λ (locks : List ℕ). has_lock locks lock) (sym (recorded_is g gb)) ∙ also)
       (ap (λ (locks : List ℕ). has_lock locks lock) (sym (recorded_is h hb)) ∙ mine)))
 
@@ -265,8 +266,8 @@ module _ (y : System) (s : IsSystem y) (w : World) (stands : Simulates y s w) (n
           | inr unlocked ↦ not_given lock (giving_of y w b code ghost lock (subst (λ (k : ℕ). HasUnlocked b.config k lock) (sym same) unlocked) thread)
         ]
 
-    of_kept : (r : Record) → Describes y.plan code (kept_of y b) r → r.point ≡ 0
-    of_kept r describes = none_points y.plan code (kept_of y b) r describes
+    of_kept : (r : Record) → DescribesAs y.plan code (kept_of y b) ghost.late r → r.point ≡ 0
+    of_kept r describes = none_points_as y.plan code (kept_of y b) ghost.late r describes
         (subst (λ (k : ℕ). holds_none (kept_of y b).holders k ≡ true) (sym same) (none_if 0 n (kept_of y b).holders not_kept))
 
     of_present : (r : Record) → Describes y.plan code (now_of y b) r → r.point ≡ 0
@@ -316,7 +317,7 @@ module _ (y : System) (s : IsSystem y) (w : World) (stands : Simulates y s w) (n
   pub no_locks : record_of w.log w.words n ≡ [] → durable_point w.log w.words n ≡ 0
   no_locks e =
       left_point y s w stands n below
-      ∙ (points_have_locks y.plan code (kept_of y b) (left y s w stands n) s.plan (orderly y s b) (left_describes y s w stands n below)).0
+      ∙ (points_have_locks y.plan code (kept_of y b) (lates y s w stands n) (left y s w stands n) s.plan (orderly y s b) (left_describes y s w stands n below)).0
       (sym (recorded_is y s w stands n below) ∙ e)
 
 pub machines_are_whole : MachinesResume → MachinesAreWhole

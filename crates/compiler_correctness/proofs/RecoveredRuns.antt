@@ -26,8 +26,8 @@ recovered_words_run_on stuck takes stand fragments_step cores_step local_stores_
     }
 
 pub recovered_words_settle : RecoveredAreCounted → RecoveredWordsSettle
-recovered_words_settle counted y s o image is events =
-    let resumes = counted y s o image.words image.kept is events in
+recovered_words_settle counted y s o image is on_time events =
+    let resumes = counted y s o image.words image.kept is on_time events in
     let b = resumes.is.stands.abstract in
     let kept = (resumed y s b).resumed.kept in
     let first : Beginning = record { from = o.source; earlier = image.kept.earlier; kept = image.kept.schedule } in

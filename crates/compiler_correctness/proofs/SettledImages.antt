@@ -1,4 +1,7 @@
 -- Lives that go on from a settled image: until another one begins nothing happens, and that one begins as after the kept schedules.
+use Rattle.recovered_threads.specs.RecordDescriptions.{DescribesAs}
+use Rattle.recovered_threads.specs.RecoveryStates.{Gathers}
+use Rattle.log_states.specs.Logs.{Record}
 use Rattle.std.proofs.Common.{◌≡◌, ◌≢◌, inl, inr, refl, ℕ, zero, suc, ◌+◌, ◌<◌, List, [], ◌∷◌, ◌++◌, length, map, ap, ap₂, arith, sym, ◌∙◌}
 use Rattle.std.proofs.Common.{subst, ℤ, Bool, true, false, ◌&&◌, ◌==◌, Option, Some, None, slice_get, append-nil, length-append}
 use Rattle.std.specs.Prelude.{if◌then◌else◌}
@@ -180,8 +183,28 @@ module _ (y : System) (s : IsSystem y) (o : Origin (flat_of y)) (image : Image) 
   abbrev releases : ℕ → ℕ
   releases n = 0
 
+  abbrev fresh : ℕ → Hart
+  fresh h = fresh_hart y.runs.program (phase_after_crash (durable_point y.runs.log (map word_of image.words) h)) h
+
+  found : (h : ℕ) → h < length y.runs.program → slice_get w0.harts h ≡ Some (fresh (0 + h))
+  unfolding after_crash_of
+  found h below = row_of fresh 0 (length y.runs.program) h below
+
+  -- no thread is late, since none has a point
+  on_time : (n : ℕ) → n < thread_count y → from.recovers.lates n ≡ false
+  on_time n below =
+      let inside : n < length y.runs.program = omega (arith, below, s.count) in
+      let zeroth : 0 + n ≡ n = omega arith in
+      by (from.recovers.lates n) (from.recovers.records n) (from.recovers.describe n below)
+      (subst (Gathers w0 n (from.recovers.records n)) (ap (λ (k : ℕ). (fresh k).phase) zeroth ∙ ap phase_after_crash (settled.points n inside))
+      (from.recovers.gathering.each n (fresh (0 + n)) (found n inside)))
+    where
+      by : (late : Bool) (r : Record) → DescribesAs y.plan (s.codes.each n below) o.flow late r → r.point ≡ 0 → late ≡ false
+      by false r describes none = refl
+      by true r past none = absurd (past.point none)
+
   abbrev z0 : SimulatesLives y s g0 w0 s0 releases
-  z0 = counted y s o image.words kept from []
+  z0 = counted y s o image.words kept from on_time []
 
   abbrev stands : Simulates y s w0
   stands = z0.is.stands
@@ -213,13 +236,6 @@ module _ (y : System) (s : IsSystem y) (o : Origin (flat_of y)) (image : Image) 
       omega (arith, inside, count, s.count)
 
   -- each hart is done
-  abbrev fresh : ℕ → Hart
-  fresh h = fresh_hart y.runs.program (phase_after_crash (durable_point y.runs.log (map word_of image.words) h)) h
-
-  found : (h : ℕ) → h < length y.runs.program → slice_get w0.harts h ≡ Some (fresh (0 + h))
-  unfolding after_crash_of
-  found h below = row_of fresh 0 (length y.runs.program) h below
-
   done : (h : ℕ) (hart : Hart) → slice_get w0.harts h ≡ Some hart → hart.phase ≡ Done
   done h hart there =
       let below = below_of h hart there in

@@ -1,11 +1,11 @@
 -- Laws of compiled programs, in the words of their readers.
-use Rattle.std.specs.Prelude.{◌≡◌, List, false}
+use Rattle.std.specs.Prelude.{◌≡◌, ℕ, ◌<◌, List, false}
 use Rattle.machine_events.specs.declared.event.Event.{Event}
 use Rattle.flow_graph.specs.Lowering.{lowered}
 use Rattle.log_schemes.specs.Schemes.{locals_of}
 use Rattle.region_cutter.specs.BoundaryPlaces.{AreBoundariesFor}
 use Rattle.region_attempts.specs.Origins.{Origin}
-use Rattle.crash_simulation.specs.Systems.{System, IsSystem, flat_of}
+use Rattle.crash_simulation.specs.Systems.{System, IsSystem, flat_of, thread_count}
 use Rattle.crash_simulation.specs.RecoveredWords.{IsRecoveredFrom}
 use Rattle.compiler_correctness.specs.Translations.{Translation, steps, world}
 use Rattle.compiler_correctness.specs.Delays.{AreDelaysBounded}
@@ -72,7 +72,8 @@ RecoveredWordsRunOn = (y : System) (s : IsSystem y) (o : Origin (flat_of y)) (im
 
 -- What a recovered image leaves is what the source leaves from there, with every section whole.
 abbrev pub RecoveredWordsSettle : Type 0
-RecoveredWordsSettle = (y : System) (s : IsSystem y) (o : Origin (flat_of y)) (image : Image) → IsRecoveredFrom y s o image.words → (events : List Event) →
+RecoveredWordsSettle = (y : System) (s : IsSystem y) (o : Origin (flat_of y)) (image : Image) (is : IsRecoveredFrom y s o image.words) →
+    ((n : ℕ) → n < thread_count y → is.recovers.lates n ≡ false) → (events : List Event) →
     SettlesFrom (translation_of y) image o.source events
 
 -- and where the image is settled, whoever wrote it, lives that go on from it keep what those keep that began at the source's start

@@ -207,6 +207,7 @@ other_counted true true h position n s other stored are =
 pub record LeavesAccount (y : System) (w v : World) (b next : AbstractRun y) (n : ℕ) (old new : ThreadGhost) : Type 0 where
   pub bound : is_bound new ≡ is_bound old
   pub leaving : is_leaving new ≡ is_leaving old
+  pub late : old.late ≡ false → new.late ≡ false
   pub sections : sections_kept y next n ≡ sections_kept y b n
   pub last : is_bound old ≡ true → last_stored v n ≡ last_stored w n
   pub done : IsInPhase w n Done → IsInPhase v n Done
@@ -223,6 +224,7 @@ module _ (y : System) {w v : World} {b next : AbstractRun y} (n : ℕ) {old new 
       ((stored : Option ℕ) → AreStoredAt n stored pending → AreStoredAt n stored then_pending) → is ≡ was →
       IsAccountedOf y w b n old pending was → IsAccountedOf y v next n new then_pending is
   still_accounted {pending} {then_pending} stays same old_is = record {
+    on_time = leaves.late old_is.on_time;
     counted = stays _ (subst (λ (at : Option ℕ). AreStoredAt n at pending)
         (same_stored (is_bound old) (is_bound new) (last_stored w n) (last_stored v n) leaves.bound leaves.last) old_is.counted);
     released = still_released same old_is.released;
@@ -251,6 +253,7 @@ module _ (y : System) {w v : World} {b next : AbstractRun y} {ghosts others : �
     each = λ n below. still_accounted y n (record {
       bound = (same n).bound;
       leaving = (same n).leaving;
+      late = λ on_time. (same n).late ∙ on_time;
       sections = same_sections n;
       last = λ e. last n;
       done = done n;

@@ -1,4 +1,7 @@
 -- The machine simulates an abstract run after all events, and its account is that run's.
+use Rattle.crash_simulation.proofs.RecordsAfterCrash.{lates}
+use Rattle.crash_simulation.specs.InstructionSteps.{again, outside}
+use Rattle.crash_simulation.proofs.LastReleases.{describes_test_as}
 use Rattle.crash_simulation.proofs.Common.{LocalStoresStep, stores_local}
 use Rattle.crash_simulation.proofs.Common.{◌≡◌, ◌≢◌, ℕ, List, ◌∷◌, sym, ◌∙◌, ap, arith, subst, true, false, Option, Some, None, refl, ◌+◌, ◌<◌, [], ◌++◌}
 use Rattle.crash_simulation.proofs.Common.{length, Bool, inl, inr, ◌==◌, slice_get, ◌&&◌, not, true≢false, ◌≤◌, ap₂, none-some, same_Some, holds_none}
@@ -69,7 +72,8 @@ module _ (law : FragmentsGoOn) {y : System} {s : IsSystem y} {w : World} {h : �
   passes_none (calls exit o is) bound =
       let over : c.rest ≡ [] = right_empty c.cleans c.rest (none_ahead y s w h below o.environment _ _ o.fragment) in
       never_bound (caught_is_over y w stands.abstract code c t over (stands.caught_up h below (λ e. e))) bound
-  passes_none (stores_local from local number o) bound =
+  passes_none (stores_local (again o)) bound = never_bound o.goes.goes.committed bound
+  passes_none (stores_local (outside from local number o)) bound =
       let over : c.rest ≡ [] = right_empty c.cleans c.rest (none_ahead y s w h below o.environment _ _ o.fragment) in
       never_bound (caught_is_over y w stands.abstract code c t over (stands.caught_up h below (λ e. e))) bound
   passes_none (at_core o free) bound = never_bound o.goes.goes.committed bound
@@ -130,16 +134,28 @@ module _ (y : System) (s : IsSystem y) (w : World) (event : Event) (old : Simula
   abbrev pub passed_in : (thread : ℕ) → ℕ
   passed_in n = passages (lowered (flat_of y)) y.plan.boundaries (now_of y old.abstract) (begun_in y w event) n
 
-  -- while the life goes on, the source goes on by these steps, and each attempt comes as far as any before; a thread has to give back what it had, or what its
-  -- step unlocks; a hart that executes instructions is one step nearer to its next mark by its own steps; what is finished of fences no boundary has more
-  -- ahead; the graph goes on by the steps, which pass boundaries as points are stored; and a store of a hart is its last one then, and an access its first one
-  -- if there was none
-  pub record Continues {waiting : ℕ → Type 0} (new : SimulatesBut y s later_world waiting) : Type 0 where
+  -- no thread stands late
+  abbrev pub AreOnTime : {u : World} {waiting : ℕ → Type 0} → SimulatesBut y s u waiting → Type 0
+  AreOnTime z = (n : ℕ) → n < thread_count y → (z.ghosts n).late ≡ false
+
+  -- the source goes on by these steps; a thread has to give back what it had, or what its step unlocks; and the graph goes on by the steps, which pass boundaries
+  -- as points are stored
+  pub record Accounts {waiting : ℕ → Type 0} (new : SimulatesBut y s later_world waiting) : Type 0 where
     pub source : now new.abstract.config ≡ after_from (now old.abstract.config) (begun_in y w event)
     pub runs : runs_from (now old.abstract.config) (begun_in y w event) ≡ true
-    pub tried : AreFurthest old.abstract.config → AreFurthest new.abstract.config
     pub unlocked : (n mutex : ℕ) → event ≡ Step n → (new.ghosts n).giving ≡ Some mutex →
         IsUnlocked (now old.abstract.config) n (passes_mark marks program w n) (old.ghosts n).giving mutex
+    pub graph : FollowsBegun y (now_of y old.abstract) (now_of y new.abstract) (begun_in y w event)
+    pub passed : (n : ℕ) → n < thread_count y → ArePassed y (stores_point program w event n) (passed_in n)
+        old.abstract (old.ghosts n) new.abstract (new.ghosts n) n
+    pub on_time : AreOnTime new
+
+  -- while the life goes on, each attempt comes as far as any before; a hart that executes instructions is one step nearer to its next mark by its own steps;
+  -- what is finished of fences no boundary has more ahead; a store of a hart is its last one then, and an access its first one if there was none; and where no
+  -- thread was late, the account goes on
+  pub record Continues {waiting : ℕ → Type 0} (new : SimulatesBut y s later_world waiting) : Type 0 where
+    pub counted : AreOnTime old → Accounts new
+    pub tried : AreFurthest old.abstract.config → AreFurthest new.abstract.config
     pub others : (n : ℕ) → event ≢ Step n → (new.ghosts n).giving ≡ (old.ghosts n).giving
     pub stays : (n : ℕ) → (event ≡ Step n → IsInPhase w n Run → ⊥) → (new.ghosts n).before_mark ≡ (old.ghosts n).before_mark
     pub nears : (n : ℕ) → event ≡ Step n → IsInPhase w n Run → Nears y w n (passes_mark marks program w n) (old.ghosts n).before_mark (new.ghosts n).before_mark
@@ -147,9 +163,6 @@ module _ (y : System) (s : IsSystem y) (w : World) (event : Event) (old : Simula
         (old.ghosts n).rest (new.ghosts n).rest
     pub last : (n word : ℕ) → (new.ghosts n).last_stores word ≡ last_store_after program w event n word ((old.ghosts n).last_stores word)
     pub accesses : (n byte : ℕ) → (new.ghosts n).first_accesses byte ≡ first_access_after program w event n byte ((old.ghosts n).first_accesses byte)
-    pub graph : FollowsBegun y (now_of y old.abstract) (now_of y new.abstract) (begun_in y w event)
-    pub passed : (n : ℕ) → n < thread_count y → ArePassed y (stores_point program w event n) (passed_in n)
-        old.abstract (old.ghosts n) new.abstract (new.ghosts n) n
 
   -- the steps are accounted so, and what the machine released
   abbrev IsCountedThen : {waiting : ℕ → Type 0} → SimulatesBut y s later_world waiting → (account : Steps → Steps) → Type 0
@@ -206,10 +219,19 @@ module _ (y : System) (s : IsSystem y) (w : World) (event : Event) (old : Simula
         last = last_then;
         accesses = accesses_then;
         on = λ on. record {
-          source = c.source ∙ moves.on.source;
-          runs = moves.on.runs;
+          counted = λ on_time.
+              let were = moves.on.counted on_time in
+              record {
+                source = c.source ∙ were.source;
+                runs = were.runs;
+                unlocked = λ n mutex own gives. were.unlocked n mutex own (sym (c.giving n) ∙ gives);
+                graph = record { runs = were.graph.runs; is = c.states ∙ were.graph.is };
+                passed = λ n below.
+                    then_passes y (stores_point program w event n) (passed_in n) old.abstract moves.next.abstract c.stands.abstract (old.ghosts n)
+                    (moves.next.ghosts n) (c.stands.ghosts n) n (were.passed n below) (c.passed n below (were.on_time n below));
+                on_time = λ n below. c.on_time n below (were.on_time n below);
+              };
           tried = λ furthest. c.tried (moves.on.tried furthest);
-          unlocked = λ n mutex own gives. moves.on.unlocked n mutex own (sym (c.giving n) ∙ gives);
           others = λ n other. c.giving n ∙ moves.on.others n other;
           stays = λ n other. c.ahead n ∙ moves.on.stays n other;
           nears = λ n own i.
@@ -219,10 +241,6 @@ module _ (y : System) (s : IsSystem y) (w : World) (event : Event) (old : Simula
               ((sym (c.rest n)) j)) (moves.on.fences n);
           last = last_then;
           accesses = accesses_then;
-          graph = record { runs = moves.on.graph.runs; is = c.states ∙ moves.on.graph.is };
-          passed = λ n below.
-              then_passes y (stores_point program w event n) (passed_in n) old.abstract moves.next.abstract c.stands.abstract (old.ghosts n)
-              (moves.next.ghosts n) (c.stands.ghosts n) n (moves.on.passed n below) (c.passed n below);
         };
       }
     where
@@ -246,7 +264,7 @@ module _ (fragments_step : FragmentsStep) (cores_step : CoresStep) (local_stores
   pub own_by : (y : System) (s : IsSystem y) (w : World) (h : ℕ) (site : Site y s w h) → IsInPhase w h Run → IsReadyToStep site → OwnStep y s w h site.stands
   own_by y s w h site i (on_fragment exit steps o) = fragments_step y s w h site i exit steps o
   own_by y s w h site i (calls exit o is) = calls_step y s w h site i exit o is
-  own_by y s w h site i (stores_local from local number o) = local_stores_step y s w h site i from local number o
+  own_by y s w h site i (stores_local o) = local_stores_step y s w h site i o
   own_by y s w h site i (at_core o free) = cores_step y s w h site i o free
 
   pub runs_simulate : RunsSimulate
@@ -280,16 +298,26 @@ module _ (fragments_step : FragmentsStep) (cores_step : CoresStep) (local_stores
                 subst (λ (z : Steps). AreCounted y g after old.abstract old.ghosts z (released_by y.runs.program w (Step h) r))
                 (sym (nothing_counted y.runs.marks y.runs.program w h none steps))
                 (account_stays y (record { source = refl; schedule = refl; uncommitted = refl })
-                (λ n. record { bound = refl; leaving = refl; giving = refl; ahead = refl; last = refl; accesses = refl; told = refl })
+                (λ n. record { bound = refl; leaving = refl; giving = refl; ahead = refl; last = refl; accesses = refl; told = refl; late = refl })
                 (stays_done y.runs.program w h old.machine.sound)
                 (λ n i. last_position (point_in (logs i) (still.words i) n)) (none_released y.runs.program w h releases r) counted);
             sections = λ n. record { sections = refl; between = refl };
             on = record {
-              source = ap (after_from (now old.abstract.config)) (sym begun);
-              runs = ap (runs_from (now old.abstract.config)) begun;
+              counted = λ on_time. record {
+                source = ap (after_from (now old.abstract.config)) (sym begun);
+                runs = ap (runs_from (now old.abstract.config)) begun;
+                unlocked = λ n mutex is gives.
+                    was_unlocked (subst (λ (k : ℕ). passes_mark y.runs.marks y.runs.program w k ≡ false) (step_of h n is) unmarked) gives;
+                graph = subst (λ (us : List ℕ). FollowsBegun y (now_of y old.abstract) (now_of y old.abstract) us) (sym begun)
+                    (record { runs = refl; is = refl });
+                passed = λ n below.
+                    let unstored = ap one_if (completes_none (is_point_store w.log n) y.runs.program w h n none) in
+                    let unpassed : passed_in y s w (Step h) old n ≡ 0 =
+                    ap (λ (us : List ℕ). passages (lowered (flat_of y)) y.plan.boundaries (now_of y old.abstract) us n) begun in
+                    omega (arith, unstored, unpassed);
+                on_time = on_time;
+              };
               tried = λ furthest. furthest;
-              unlocked = λ n mutex is gives.
-                  was_unlocked (subst (λ (k : ℕ). passes_mark y.runs.marks y.runs.program w k ≡ false) (step_of h n is) unmarked) gives;
               others = λ n other. refl;
               stays = λ n other. refl;
               nears = λ n is i. absurd (off (subst (λ (k : ℕ). IsInPhase w k Run) (sym (step_of h n is)) i));
@@ -300,14 +328,49 @@ module _ (fragments_step : FragmentsStep) (cores_step : CoresStep) (local_stores
                   last_unless y.runs.program w h word ((old.ghosts n).last_stores word) n (completes_none (stores_into word) y.runs.program w h n none);
               accesses = λ n byte.
                   accessed_none y.runs.program w h byte ((old.ghosts n).first_accesses byte) n (λ test. completes_none test y.runs.program w h n none);
-              graph = subst (λ (us : List ℕ). FollowsBegun y (now_of y old.abstract) (now_of y old.abstract) us) (sym begun)
-                  (record { runs = refl; is = refl });
-              passed = λ n below.
-                  let unstored = ap one_if (completes_none (is_point_store w.log n) y.runs.program w h n none) in
-                  let unpassed : passed_in y s w (Step h) old n ≡ 0 =
-                  ap (λ (us : List ℕ). passages (lowered (flat_of y)) y.plan.boundaries (now_of y old.abstract) us n) begun in
-                  omega (arith, unstored, unpassed);
             };
+          }
+
+      -- what it counts, where no thread was late
+      runs_counted : (i : IsInPhase w h Run) → AreOnTime y s w (Step h) old old →
+          Accounts y s w (Step h) old (simulates_after y s w h (runs_ready y s w h old i).site.stands i (own_by y s w h (runs_ready y s w h old i).site i
+          (runs_ready y s w h old i).ready))
+      runs_counted i on_time =
+          let r = runs_ready y s w h old i in
+          let site = r.site in
+          let o = own_by y s w h site i r.ready in
+          let ghosts = site.stands.ghosts in
+          let later : SimulatesBut y s after anybody = simulates_after y s w h site.stands i o in
+          let marks : begins o.led ≡ marked = sym (o.counted.marks ((r.similar.same h).late ∙ on_time h site.below)) in
+          let on =
+          coe 0 1 (j. GoesOnBy (now (r.similar.abstract j).config) (now o.next.config) (begun_by (marks j) h []))
+          (led_now y s site.stands.abstract h o.next o.led) in
+          record {
+            source = on.0;
+            runs = on.1;
+            unlocked = λ n mutex is.
+                subst (λ (k : ℕ). (later.ghosts k).giving ≡ Some mutex → IsUnlocked (now old.abstract.config) k
+                (passes_mark y.runs.marks y.runs.program w k) (old.ghosts k).giving mutex) (step_of h n is)
+                (λ gives. coe 0 1 (j. IsUnlocked (now (r.similar.abstract j).config) h (marks j) ((r.similar.same h).giving j) mutex)
+                (o.counted.unlocked mutex (ap (λ (c : ThreadGhost). c.giving) (sym (own_ghost ghosts h o.ghost)) ∙ gives)));
+            graph =
+                coe 0 1 (j. FollowsBegun y (now_of y (r.similar.abstract j)) (now_of y o.next) (begun_by (marks j) h []))
+                (led_graph y s site.stands.abstract h o.next o.led);
+            passed = λ n below.
+                coe 0 1 (j. ArePassed y (stores_point y.runs.program w (Step h) n)
+                (passages (lowered (flat_of y)) y.plan.boundaries (now_of y (r.similar.abstract j)) (begun_by (marks j) h []) n)
+                (r.similar.abstract j) (old.ghosts n) o.next (later.ghosts n) n)
+                (passed_from y (stores_point y.runs.program w (Step h) n)
+                (passages (lowered (flat_of y)) y.plan.boundaries (now_of y site.stands.abstract) (begun_by (begins o.led) h []) n)
+                site.stands.abstract o.next (old.ghosts n) (site.stands.ghosts n) (later.ghosts n) n (r.similar.same n).bound (r.similar.same n).told
+                (step_passed y s w h site.stands o ((r.similar.same h).late ∙ on_time h site.below)
+                (λ k apart. completes_other (is_point_store w.log k) y.runs.program w h k apart) n));
+            on_time = λ n below. elim (same_or_other n h) [
+              | inl same ↦
+                  subst (λ (k : ℕ). (later.ghosts k).late ≡ false) (sym same)
+                  (ap (λ (c : ThreadGhost). c.late) (own_ghost ghosts h o.ghost) ∙ (o.counted.late ∙ ((r.similar.same h).late ∙ on_time h site.below)))
+              | inr apart ↦ ap (λ (c : ThreadGhost). c.late) (other_ghost ghosts h o.ghost n apart) ∙ ((r.similar.same n).late ∙ on_time n below)
+            ];
           }
 
       runs_move : IsInPhase w h Run → StepMoves
@@ -317,10 +380,6 @@ module _ (fragments_step : FragmentsStep) (cores_step : CoresStep) (local_stores
           let o = own_by y s w h site i r.ready in
           let ghosts = site.stands.ghosts in
           let later : SimulatesBut y s after anybody = simulates_after y s w h site.stands i o in
-          let marks : begins o.led ≡ marked = sym o.counted.marks in
-          let on =
-          coe 0 1 (j. GoesOnBy (now (r.similar.abstract j).config) (now o.next.config) (begun_by (marks j) h []))
-          (led_now y s site.stands.abstract h o.next o.led) in
           record {
             next = later;
             counted = λ g steps releases counted.
@@ -330,15 +389,9 @@ module _ (fragments_step : FragmentsStep) (cores_step : CoresStep) (local_stores
                 (passes_none law site r.ready);
             sections = λ n. coe 0 1 (j. AreSameSections y (r.similar.abstract j) o.next n) (led_sections y site.stands.abstract h o.next o.led n);
             on = record {
-              source = on.0;
-              runs = on.1;
+              counted = λ on_time. runs_counted i on_time;
               tried = λ furthest.
                   (led_of y site.stands.abstract h o.next o.led).config.tried (coe 0 1 (j. AreFurthest ((sym r.similar.abstract) j).config) furthest);
-              unlocked = λ n mutex is.
-                  subst (λ (k : ℕ). (later.ghosts k).giving ≡ Some mutex → IsUnlocked (now old.abstract.config) k
-                  (passes_mark y.runs.marks y.runs.program w k) (old.ghosts k).giving mutex) (step_of h n is)
-                  (λ gives. coe 0 1 (j. IsUnlocked (now (r.similar.abstract j).config) h (marks j) ((r.similar.same h).giving j) mutex)
-                  (o.counted.unlocked mutex (ap (λ (c : ThreadGhost). c.giving) (sym (own_ghost ghosts h o.ghost)) ∙ gives)));
               others = λ n other.
                   ap (λ (c : ThreadGhost). c.giving) (other_ghost ghosts h o.ghost n (λ same. other (ap Step (sym same)))) ∙ (r.similar.same n).giving;
               stays = λ n other.
@@ -347,7 +400,7 @@ module _ (fragments_step : FragmentsStep) (cores_step : CoresStep) (local_stores
               nears = λ n is running.
                   subst (λ (k : ℕ). Nears y w k (passes_mark y.runs.marks y.runs.program w k) (old.ghosts k).before_mark
                   (later.ghosts k).before_mark) (step_of h n is)
-                  (coe 0 1 (j. Nears y w h (marks j) ((r.similar.same h).ahead j) ((sym (own_ghost ghosts h o.ghost)) j).before_mark) o.counted.nears);
+                  (coe 0 1 (j. Nears y w h marked ((r.similar.same h).ahead j) ((sym (own_ghost ghosts h o.ghost)) j).before_mark) o.counted.nears);
               fences = λ n.
                   joined_fences (boundary_fences y.plan.log) (finishes_fence y.runs.program w (Step h) n) (stores_point y.runs.program w (Step h) n)
                   (old.ghosts n).rest (ghosts n).rest (later.ghosts n).rest (r.similar.fences n) (elim (same_or_other n h) [
@@ -387,17 +440,6 @@ module _ (fragments_step : FragmentsStep) (cores_step : CoresStep) (local_stores
                     ∙ accessed_none y.runs.program w h byte ((old.ghosts n).first_accesses byte) n
                     (λ test. completes_other test y.runs.program w h n apart))
               ];
-              graph =
-                  coe 0 1 (j. FollowsBegun y (now_of y (r.similar.abstract j)) (now_of y o.next) (begun_by (marks j) h []))
-                  (led_graph y s site.stands.abstract h o.next o.led);
-              passed = λ n below.
-                  coe 0 1 (j. ArePassed y (stores_point y.runs.program w (Step h) n)
-                  (passages (lowered (flat_of y)) y.plan.boundaries (now_of y (r.similar.abstract j)) (begun_by (marks j) h []) n)
-                  (r.similar.abstract j) (old.ghosts n) o.next (later.ghosts n) n)
-                  (passed_from y (stores_point y.runs.program w (Step h) n)
-                  (passages (lowered (flat_of y)) y.plan.boundaries (now_of y site.stands.abstract) (begun_by (begins o.led) h []) n)
-                  site.stands.abstract o.next (old.ghosts n) (site.stands.ghosts n) (later.ghosts n) n (r.similar.same n).bound (r.similar.same n).told
-                  (step_passed y s w h site.stands o (λ k apart. completes_other (is_point_store w.log k) y.runs.program w h k apart) n));
             };
           }
 
@@ -430,18 +472,21 @@ module _ (fragments_step : FragmentsStep) (cores_step : CoresStep) (local_stores
       counted = λ g steps r counted. evicted_counted y s w line mask old steps r counted;
       sections = λ n. record { sections = refl; between = refl };
       on = record {
-        source = refl;
-        runs = refl;
+        counted = λ on_time. record {
+          source = refl;
+          runs = refl;
+          unlocked = λ n mutex is gives. cc;
+          graph = record { runs = refl; is = refl };
+          passed = λ n below. omega arith;
+          on_time = on_time;
+        };
         tried = λ furthest. furthest;
-        unlocked = λ n mutex is gives. cc;
         others = λ n other. refl;
         stays = λ n other. refl;
         nears = λ n is i. cc;
         fences = λ n. same_fences (boundary_fences y.plan.log) false false (old.ghosts n).rest refl refl;
         last = λ n word. refl;
         accesses = λ n byte. refl;
-        graph = record { runs = refl; is = refl };
-        passed = λ n below. omega arith;
       };
     }
 
@@ -563,9 +608,9 @@ module _ (fragments_step : FragmentsStep) (cores_step : CoresStep) (local_stores
         lives_carried y s events (first_world y.runs) _ (λ n. 0) (record { lives = []; ended = refl; is = start_counted y s })
 
     pub recovered_are_counted : RecoveredAreCounted
-    recovered_are_counted y s o words kept is events =
+    recovered_are_counted y s o words kept is on_time events =
         lives_carried y s events (after_crash_of y.runs.log y.runs.program y.runs.mutexes words) _ (λ n. 0)
-        (record { lives = []; ended = refl; is = recovered_counted y s o words kept is })
+        (record { lives = []; ended = refl; is = recovered_counted y s o words kept is on_time })
 
     -- ---- Its sections are kept
 
@@ -583,7 +628,7 @@ module _ (fragments_step : FragmentsStep) (cores_step : CoresStep) (local_stores
         let t = z.is.stands in
         let near : IsNear (ended_in_machine y events h) (sections_kept y t.abstract h) = elim (below_or_past h (thread_count y)) [
           | inl below ↦ near_of y _ t.abstract h (t.ghosts h) (ended_in_machine y events h) (z.is.counted.each h below).released
-          | inr outside ↦ let same = z.is.counted.beyond h outside in (omega (arith, same), omega (arith, same))
+          | inr past ↦ let same = z.is.counted.beyond h past in (omega (arith, same), omega (arith, same))
         ] in
         subst (IsNear (ended_in_machine y events h))
         (ap₂ (λ (from : State) (us : List ℕ). ended_from from us h) (begins_at y s _ _ z) (sym (schedule_is y s _ _ z))) near
@@ -609,7 +654,7 @@ module _ (y : System) (s : IsSystem y) (w : World) (stands : Simulates y s w) (n
   point_says =
       ap (λ (hs : List (Option ℕ)). holds_none hs n) (sym (kept_matches y s b).holders)
       ∙ (ap (λ (k : ℕ). holds_none (kept_of y b).holders k) (sym (s.codes.number n below))
-      ∙ (sym (describes_test y (s.codes.each n below) (kept_of y b) (left y s w stands n) (left_describes y s w stands n below))
+      ∙ (sym (describes_test_as y (s.codes.each n below) (kept_of y b) (lates y s w stands n) (left y s w stands n) (left_describes y s w stands n below))
       ∙ ap (λ (k : ℕ). k == 0) (sym (left_point y s w stands n below))))
 
 -- ---- An event

@@ -149,14 +149,15 @@ module _ (y : System) (s : IsSystem y) (w : World) (stands : Simulates y s w) (r
 -- the account of a machine that begins, after what was kept before
 pub begun_counted : (y : System) (s : IsSystem y) (g : Beginning) {w : World} (stands : Simulates y s w) →
     stands.abstract.origin.source ≡ g.from → stands.abstract.schedule ≡ [] → stands.abstract.config.uncommitted ≡ [] →
-    ((n : ℕ) → (stands.ghosts n).giving ≡ None) →
+    ((n : ℕ) → (stands.ghosts n).giving ≡ None) → ((n : ℕ) → n < thread_count y → (stands.ghosts n).late ≡ false) →
     AreCounted y g w stands.abstract stands.ghosts (first_steps (record { earlier = g.earlier; schedule = g.kept })) (λ n. 0)
-begun_counted y s g {w} stands from none uncommitted fresh = record {
+begun_counted y s g {w} stands from none uncommitted fresh on_time = record {
   begins = from;
   earlier = refl;
   kept = sym (append-nil g.kept) ∙ ap (λ (us : List ℕ). g.kept ++ us) (sym none);
   pending = sym uncommitted;
   each = λ n below. record {
+    on_time = on_time n below;
     counted = tt;
     released = in_step (ap (λ (us : List ℕ). m.ended_from stands.abstract.origin.source us n) none
         ∙ ap (λ (z : Bool). 0 + one_if z) (sym (none_leaving (stands.ghosts n) (fresh n))));
@@ -166,24 +167,24 @@ begun_counted y s g {w} stands from none uncommitted fresh = record {
 
 abbrev pub first_counted : (y : System) (s : IsSystem y) (g : Beginning) {w : World} (stands : Simulates y s w) → stands.abstract.origin.source ≡ g.from →
     stands.abstract.schedule ≡ [] → stands.abstract.config.uncommitted ≡ [] →
-    ((n : ℕ) → (stands.ghosts n).giving ≡ None) →
+    ((n : ℕ) → (stands.ghosts n).giving ≡ None) → ((n : ℕ) → n < thread_count y → (stands.ghosts n).late ≡ false) →
     SimulatesCounted y s g w (first_steps (record { earlier = g.earlier; schedule = g.kept })) (λ n. 0)
-first_counted y s g {w} stands from none uncommitted fresh = record {
+first_counted y s g {w} stands from none uncommitted fresh on_time = record {
   stands = stands;
-  counted = begun_counted y s g stands from none uncommitted fresh;
+  counted = begun_counted y s g stands from none uncommitted fresh on_time;
 }
 
 abbrev pub start_counted : (y : System) (s : IsSystem y) →
     SimulatesCounted y s (first_beginning y) (first_world y.runs) (first_steps (only_life [])) (λ n. 0)
-start_counted y s = first_counted y s (first_beginning y) (life.stands y s) refl refl refl (λ n. refl)
+start_counted y s = first_counted y s (first_beginning y) (life.stands y s) refl refl refl (λ n. refl) (λ n below. refl)
 
 abbrev pub recovered_counted : (y : System) (s : IsSystem y) (o : Origin (flat_of y)) (words : List ℕ) (kept : LifeSchedules)
-    (is : IsRecoveredFrom y s o words) →
+    (is : IsRecoveredFrom y s o words) → ((n : ℕ) → n < thread_count y → is.recovers.lates n ≡ false) →
     SimulatesCounted y s (record { from = o.source; earlier = kept.earlier; kept = kept.schedule })
     (after_crash_of y.runs.log y.runs.program y.runs.mutexes words) (first_steps kept) (λ n. 0)
-recovered_counted y s o words kept is =
+recovered_counted y s o words kept is on_time =
     first_counted y s (record { from = o.source; earlier = kept.earlier; kept = kept.schedule }) (starting.recovered_stands y s o words is) refl refl refl
-    (λ n. refl)
+    (λ n. refl) on_time
 
 pub crash_counted : (y : System) (s : IsSystem y) {g : Beginning} (w : World) (stands : Simulates y s w) (steps : Steps) (r : ℕ → ℕ) →
     AreCounted y g w stands.abstract stands.ghosts steps r →
@@ -196,6 +197,7 @@ crash_counted y s {g} w stands steps r counted = record {
   kept = counted.kept ∙ ap (λ (us : List ℕ). g.kept ++ us) (sym (append-nil stands.abstract.schedule));
   pending = refl;
   each = λ n below. record {
+    on_time = (counted.each n below).on_time;
     counted = tt;
     released = crashed_by y s w stands r n below (counted.each n below).released;
   };
@@ -210,7 +212,7 @@ pub evicted_counted : (y : System) (s : IsSystem y) {g : Beginning} (w : World) 
     (released_by y.runs.program w (Evict line mask) r)
 evicted_counted y s w line mask stands steps r counted =
     account_stays y (record { source = refl; schedule = refl; uncommitted = refl })
-    (λ n. record { bound = refl; leaving = refl; giving = refl; ahead = refl; last = refl; accesses = refl; told = refl })
+    (λ n. record { bound = refl; leaving = refl; giving = refl; ahead = refl; last = refl; accesses = refl; told = refl; late = refl })
     (λ n i. let here = ap (λ (v : World). slice_get v.harts n) (evictions_touch y.runs.program w line mask).1 ∙ i.here in
     record { hart = i.hart; here = here; phase_is = i.phase_is })
     (evicted_last_stays y.runs.program w line mask) (λ n. sym (none_more (r n))) counted
@@ -261,7 +263,7 @@ module _ (y : System) (s : IsSystem y) (w : World) (h : ℕ) (stands : Simulates
   lead = led_of y b h o.next o.led
 
   pending : o.next.config.uncommitted ≡ begun_by begun h b.config.uncommitted
-  pending = lead.config.pending ∙ ap (λ (x : Bool). begun_by x h b.config.uncommitted) (sym o.counted.marks)
+  pending = lead.config.pending ∙ ap (λ (x : Bool). begun_by x h b.config.uncommitted) (sym (o.counted.marks (counted.each h o.below).on_time))
 
   -- the hart's point is the last that it stored
   own_stays : is_bound old ≡ true → last_stored after h ≡ last_stored w h
@@ -286,6 +288,7 @@ module _ (y : System) (s : IsSystem y) (w : World) (h : ℕ) (stands : Simulates
   other n below differs = still_accounted y n (record {
     bound = refl;
     leaving = refl;
+    late = λ on_time. on_time;
     sections = kept_own y s w h stands i o r n;
     last = λ e. other_last_stays y.runs.program w h n i.hart stands.machine.sound i.here
         [] (elsewhere y s w h b stands.machine.log o.stores_own n (λ same. differs (sym same)) []) (λ same. differs (sym same));
@@ -300,7 +303,7 @@ module _ (y : System) (s : IsSystem y) (w : World) (h : ℕ) (stands : Simulates
     pending = pending_is begun points h position steps ∙ (ap (begun_by begun h) counted.pending ∙ sym pending);
     each = each_placed (thread_count y) stands.ghosts h o.below o.ghost
         (λ (n : ℕ) (below : n < thread_count y) (c : ThreadGhost). IsAccountedOf y after o.next n c then_steps.pending (then_released n))
-        (record { counted = own; released = released_own y s w h stands i o r (counted.each h o.below).released }) other;
+        (record { on_time = o.counted.late ∙ (counted.each h o.below).on_time; counted = own; released = released_own y s w h stands i o r (counted.each h o.below).released }) other;
     beyond = λ n outside. kept_own y s w h stands i o r n
         ∙ (counted.beyond n outside ∙ sym (other_released y.runs.program w h r n (λ e. omega (arith, outside, o.below, e))));
   }

@@ -467,11 +467,11 @@ told_is y s b h told right node stands =
 
 -- a step of a hart that executes instructions
 pub step_passed : (y : System) (s : IsSystem y) (w : World) (h : ℕ) (stands : Simulates y s w) (o : OwnStep y s w h stands) →
-    ((n : ℕ) → n ≢ h → stores_point y.runs.program w (Step h) n ≡ false) → (n : ℕ) →
+    (stands.ghosts h).late ≡ false → ((n : ℕ) → n ≢ h → stores_point y.runs.program w (Step h) n ≡ false) → (n : ℕ) →
     ArePassed y (stores_point y.runs.program w (Step h) n)
     (passages (lowered (flat_of y)) y.plan.boundaries (now_of y stands.abstract) (begun_by (begins o.led) h []) n)
     stands.abstract (stands.ghosts n) o.next (with_ghost stands.ghosts h o.ghost n) n
-step_passed y s w h stands o unstored n = elim (same_or_other n h) [
+step_passed y s w h stands o on_time unstored n = elim (same_or_other n h) [
   | inl same ↦ subst Passed (sym same) own
   | inr other ↦
       let b = stands.abstract in
@@ -497,7 +497,7 @@ step_passed y s w h stands o unstored n = elim (same_or_other n h) [
         let at : node_of (now_of y stands.abstract) h ≡ Some t.graph_thread.at =
         ap (option_map (λ (z : GraphThread). z.at)) (subst (λ (k : ℕ). slice_get (now_of y stands.abstract).graph_threads k ≡ Some t.graph_thread)
         (s.codes.number h o.below) t.walks) in
-        told_is y s stands.abstract h (tells_write (stands.ghosts h)) (o.counted.begins_told begun none) t.graph_thread.at at
+        told_is y s stands.abstract h (tells_write (stands.ghosts h)) (o.counted.begins_told on_time begun none) t.graph_thread.at at
 
     own : Passed h
     own =
@@ -517,7 +517,7 @@ step_passed y s w h stands o unstored n = elim (same_or_other n h) [
 -- what is so of a thread's own commit: it comes to a boundary that stands by choice, or passes a mutex; without a step it has come to none before
 pub record ComesToBoundary (y : System) (b : AbstractRun y) (c : ThreadGhost) (thread : ℕ) : Type 0 where
   pub one : one_if (is_some c.new.written) + (steps_begun b.config thread - (attempt_of b.config thread).done) ≡ 1
-  pub fresh : steps_begun b.config thread ≡ 0 → is_some c.old.written ≡ false
+  pub fresh : c.late ≡ false → steps_begun b.config thread ≡ 0 → is_some c.old.written ≡ false
 
 module _ (y : System) (s : IsSystem y) (w : World) (b : AbstractRun y) (code : Code y.plan) (c : ThreadGhost) (t : ThreadInv y w b code c)
     (not_yet : c.committed ≡ false) where
@@ -529,30 +529,30 @@ module _ (y : System) (s : IsSystem y) (w : World) (b : AbstractRun y) (code : C
   comes_by _ steps (at_took from) o =
       let begun = (o.fits.before not_yet).1.begun in
       let told = ap one_if o.fits.written in
-      record { one = omega (arith, told, begun); fresh = λ none. absurd (omega (arith, none, begun)) }
+      record { one = omega (arith, told, begun); fresh = λ on_time none. absurd (omega (arith, none, begun)) }
   comes_by _ steps (at_gives from mutex) o =
       let begun = (o.fits.before not_yet).begun in
       let told = ap one_if o.fits.written in
-      record { one = omega (arith, told, begun); fresh = λ none. absurd (omega (arith, none, begun)) }
+      record { one = omega (arith, told, begun); fresh = λ on_time none. absurd (omega (arith, none, begun)) }
 
   pub comes : ComesToBoundary y b c u
   comes = let u = under_way y w b code c t not_yet in comes_by u.to u.steps u.exit u.on
 
 module _ (y : System) (b next : AbstractRun y) (k : ℕ) where
   -- the thread's own: the point to which they were bound is that of the last boundary that they pass, or of the one before the next node
-  pub own_taken : (c : ThreadGhost) → c.committed ≡ false → is_bound c ≡ true → ComesToBoundary y b c k → steps_begun next.config k ≡ 0 →
-      ArePassed y false 0 b c next (record c { committed = true }) k
-  own_taken c not_yet bound come none =
+  pub own_taken : (c : ThreadGhost) → c.committed ≡ false → is_bound c ≡ true → c.late ≡ false → ComesToBoundary y b c k → steps_begun next.config k ≡ 0 →
+      ArePassed y false 0 b c next (record c { committed = true; late = false }) k
+  own_taken c not_yet bound on_time come none =
       let later : passages_ahead y next (one_if (is_some c.new.written)) k ≡ 0 =
       ap (λ (j : ℕ). ahead_by j (attempt_of next.config k).done (one_if (is_some c.new.written))) none in
       let old : told_of c ≡ one_if (is_some c.old.written) = ap (λ (r : Record). one_if (is_some r.written)) (cond-false c.committed c.new c.old not_yet) in
       by (steps_begun b.config k) refl later old (ap one_if bound)
     where
       by : (count : ℕ) → steps_begun b.config k ≡ count → passages_ahead y next (one_if (is_some c.new.written)) k ≡ 0 →
-          told_of c ≡ one_if (is_some c.old.written) → one_if (is_bound c) ≡ 1 → ArePassed y false 0 b c next (record c { committed = true }) k
+          told_of c ≡ one_if (is_some c.old.written) → one_if (is_bound c) ≡ 1 → ArePassed y false 0 b c next (record c { committed = true; late = false }) k
       by zero count later old one =
           let before : passages_ahead y b (told_of c) k ≡ 0 = ap (λ (j : ℕ). ahead_by j (attempt_of b.config k).done (told_of c)) count in
-          omega (arith, before, later, old, one, come.one, count, ap one_if (come.fresh count))
+          omega (arith, before, later, old, one, come.one, count, ap one_if (come.fresh on_time count))
       by (suc j) count later old one =
           let before = ahead_some (steps_begun b.config k) (attempt_of b.config k).done (told_of c) (omega (arith, count)) in
           omega (arith, before, later, one, come.one)

@@ -1,4 +1,6 @@
 -- A step of a hart at its call: it takes a mutex or waits, gives one back, or ends.
+use Rattle.crash_simulation.proofs.LastReleases.{describes_test_as}
+use Rattle.crash_simulation.proofs.PointsInSections.{point_free}
 use Rattle.crash_simulation.proofs.Common.{◌≡◌, ◌≢◌, ℕ, List, sym, ◌∙◌, ap, arith, subst, true, false, Option, Some, None, refl, suc, ◌+◌, [], ◌++◌, length}
 use Rattle.crash_simulation.proofs.Common.{Bool, ◌⊎◌, inl, inr, ◌==◌, slice_set, slice_get, ◌&&◌, if◌then◌else◌, true≢false, is_some, ◌-◌, ⊎_elim, is_none}
 use Rattle.crash_simulation.proofs.Common.{cases_Bool, and_parts, cond-true, cond-false, nat_tests, none-some, same_Some, holds_none, Entry, Step, Hart, World}
@@ -16,7 +18,7 @@ use Rattle.crash_simulation.proofs.BoundaryFences.{same_fences}
 use Rattle.crash_simulation.proofs.LastReleases.{holds_some, no_release, holders_stay_none, is_release, none_leaving, describes_test}
 use Rattle.crash_simulation.proofs.LocksAfterStep.{GoneOn, runs_held, held_given}
 use Rattle.crash_simulation.proofs.OwnHartSteps.{view, StepOf, own_step, own_giving, locks_to, held_still}
-use Rattle.crash_simulation.proofs.LockCallSteps.{none_from, point_none, AtEnd, MovesHart, FragmentTo, z, invariant, exists_now, now_holders}
+use Rattle.crash_simulation.proofs.LockCallSteps.{none_from, AtEnd, MovesHart, FragmentTo, z, invariant, exists_now, now_holders}
 use Rattle.crash_simulation.proofs.LockCallSteps.{kept_held, fragment_over, none_left, rest_over, hart_is, committed_over, call_stores, points_none, alone}
 use Rattle.crash_simulation.proofs.LockCallSteps.{holders_after, memory_after, describes_new, asks_step, fences_still, last_still, accesses_still}
 use Rattle.crash_simulation.proofs.StatesMatchSource.{kept_matches}
@@ -132,7 +134,7 @@ module _ {y : System} {s : IsSystem y} {w : World} {h from mutex : ℕ} (at : At
         fits = (
           record { going = none_begun ∙ sym none_done; rest = rest_over at; giving = refl; committed = committed_over at },
           bounded.execution,
-          λ none. bounded.written,
+          λ on_time none. bounded.written,
         );
         owes = tt;
         soon =
@@ -147,7 +149,7 @@ module _ {y : System} {s : IsSystem y} {w : World} {h from mutex : ℕ} (at : At
   given_phase = elim (cases_Bool is_over) [
     | inl over ↦
         by Done (cond-true is_over Done Run over)
-        ((is_settled over, point_none y code (kept_of y b) c.new (describes_new at) (kept_none (and_parts w.recovering _ over).1)), tt)
+        ((is_settled over, point_free code (kept_of y b) c.late c.new (describes_new at) (kept_none (and_parts w.recovering _ over).1)), tt)
     | inr more ↦ let run = cond-false is_over Done Run more in by Run run (goes_on_running more run, tt)
   ]
     where
@@ -179,7 +181,7 @@ module _ {y : System} {s : IsSystem y} {w : World} {h from mutex : ℕ} (at : At
 
   leaving_is : is_leaving c ≡ holds_none (kept_of y b).holders n
   leaving_is =
-      let test : (c.new.point == 0) ≡ holds_none (kept_of y b).holders n = describes_test y code (kept_of y b) c.new (describes_new at) in
+      let test : (c.new.point == 0) ≡ holds_none (kept_of y b).holders n = describes_test_as y code (kept_of y b) c.late c.new (describes_new at) in
       let gives : c.giving ≡ Some mutex = bounded.gives in
       let done : c.committed ≡ true = committed_over at in
       λ i. done i && (is_some (gives i) && test i)
@@ -211,7 +213,8 @@ module _ {y : System} {s : IsSystem y} {w : World} {h from mutex : ℕ} (at : At
         (same_there (slice_get v.harts n) given_hart given_thread.log.hart (alone at given_move).here given_thread.log.here) given_phase.1;
     held = λ held. held_given (locks_to at.site b given_ghost refl) held mutex owns not_now (holders_after at given_move) refl gives_it refl;
     counted = record {
-      marks = given.no_mark y.runs.marks refl;
+      late = refl;
+      marks = λ on_time. given.no_mark y.runs.marks refl;
       unlocked = λ lock gives. absurd (none-some lock gives);
       points = given.counts.0 ∙ not_twice (is_bound c);
       bound = λ e. e;
@@ -221,7 +224,7 @@ module _ {y : System} {s : IsSystem y} {w : World} {h from mutex : ℕ} (at : At
         | inr more ↦ is_nearer (nearer.0 ∙ ap suc (sym (cond-false is_over (most_ahead y n) (c.before_mark - 1) more)))
       ];
       told = refl;
-      begins_told = λ no. absurd (true≢false (sym no));
+      begins_told = λ on_time no. absurd (true≢false (sym no));
       last = last_still at at_unlock;
       accesses = accesses_still at at_unlock;
     };
@@ -273,7 +276,7 @@ module _ {y : System} {s : IsSystem y} {w : World} {h : ℕ} (at : AtEnd y s w h
 
   ended_thread : ThreadInv y v b code c
   ended_thread =
-      let point = point_none y code (kept_of y b) c.new (describes_new at)
+      let point = point_free code (kept_of y b) c.late c.new (describes_new at)
       (kept_held at (λ m u. omega (arith, u.begun, ends_clean.goes.going)) none_now) in
       phase_moves v c.giving c.before_mark (λ lock gives. gives) t ended_move.new (alone at ended_move) (ends_clean, point)
 
@@ -289,14 +292,15 @@ module _ {y : System} {s : IsSystem y} {w : World} {h : ℕ} (at : AtEnd y s w h
         (same_there (slice_get v.harts n) ended_move.new ended_thread.log.hart (alone at ended_move).here ended_thread.log.here) tt;
     held = held_still at.site b c (holders_after at ended_move) refl refl refl;
     counted = record {
-      marks = ended.1 y.runs.marks refl;
+      late = refl;
+      marks = λ on_time. ended.1 y.runs.marks refl;
       unlocked = λ lock gives. was_unlocked refl gives;
       points = points_none at at_end;
       bound = λ e. e;
       fences = fences_still at at_end;
       nears = halts ended_move.new (alone at ended_move).here (inr refl);
       told = refl;
-      begins_told = λ no. absurd (true≢false (sym no));
+      begins_told = λ on_time no. absurd (true≢false (sym no));
       last = last_still at at_end;
       accesses = accesses_still at at_end;
     };

@@ -167,16 +167,21 @@ module _ (y : System) (s : IsSystem y) (w : World) (k : ℕ) (below : k < thread
 
   module _ (one : IsTaken) (not_yet : c.committed ≡ false) where
     abbrev ghosts : ℕ → ThreadGhost
-    ghosts n = record (stands.ghosts n) { committed = if n == k then true else (stands.ghosts n).committed }
+    ghosts n = record (stands.ghosts n) {
+      committed = if n == k then true else (stands.ghosts n).committed;
+      late = if n == k then false else (stands.ghosts n).late;
+    }
 
     -- what is so of the thread, taken as committed, and of all others as they were, is so of each
     each_taken : (P : (n : ℕ) → n < thread_count y → ThreadGhost → Type 0) → P k below (taken c) →
         ((n : ℕ) (inside : n < thread_count y) → n ≢ k → P n inside (stands.ghosts n)) → (n : ℕ) (inside : n < thread_count y) → P n inside (ghosts n)
     each_taken P own others =
         each_thread (thread_count y) k below (λ (n : ℕ) (inside : n < thread_count y). P n inside (ghosts n))
-        (subst (λ (z : Bool). P k below (record c { committed = z })) (sym (cond-true (k == k) true c.committed (equal_self k))) own)
-        (λ n inside apart. subst (λ (z : Bool). P n inside (record (stands.ghosts n) { committed = z }))
-        (sym (cond-false (n == k) true (stands.ghosts n).committed (unequal_of n k apart))) (others n inside apart))
+        (subst (λ (z : Bool). P k below (record c { committed = if z then true else c.committed; late = if z then false else c.late })) (sym (equal_self k)) own)
+        (λ n inside apart. subst (λ (z : Bool). P n inside (record (stands.ghosts n) {
+          committed = if z then true else (stands.ghosts n).committed;
+          late = if z then false else (stands.ghosts n).late;
+        })) (sym (unequal_of n k apart)) (others n inside apart))
 
     locked : AreLocked y w b stands.ghosts → AreLocked y w one.next ghosts
     locked (gathering none gathers) = gathering (one.pending ∙ ap (λ (us : List ℕ). without (steps_of k us) k us) none) gathers
@@ -225,10 +230,11 @@ module _ (y : System) (s : IsSystem y) (w : World) (k : ℕ) (below : k < thread
         each = each_taken
             (λ (n : ℕ) (inside : n < thread_count y) (c' : ThreadGhost).
             IsAccountedOf y w one.next n c' (with_kept w.log w.words k steps).pending (r n))
-            (record { counted = own_counted; released = own_released (counted.each k below).released })
+            (record { on_time = refl; counted = own_counted; released = own_released (counted.each k below).released })
             (λ n inside apart. still_accounted y n (record {
               bound = refl;
               leaving = refl;
+              late = λ on_time. on_time;
               sections = kept_others y s b one.next k one.origin one.schedule n apart;
               last = λ e. refl;
               done = λ d. d;
@@ -252,8 +258,9 @@ pub record CatchesUp (y : System) (s : IsSystem y) (w : World) (first : Simulate
   pub accesses : (n : ℕ) → (stands.ghosts n).first_accesses ≡ (first.ghosts n).first_accesses
   -- the graph is where it was, and of boundaries that are passed and points that are stored as many are ahead
   pub states : now_of y stands.abstract ≡ now_of y first.abstract
-  pub passed : (n : ℕ) → n < thread_count y →
+  pub passed : (n : ℕ) → n < thread_count y → (first.ghosts n).late ≡ false →
       ArePassed y false 0 first.abstract (first.ghosts n) stands.abstract (stands.ghosts n) n
+  pub on_time : (n : ℕ) → n < thread_count y → (first.ghosts n).late ≡ false → (stands.ghosts n).late ≡ false
   pub counted : (g : Beginning) (steps : Steps) (r : ℕ → ℕ) → AreCounted y g w first.abstract first.ghosts steps r →
       AreCounted y g w stands.abstract stands.ghosts (with_all_kept w.log w.words count steps) r
   -- sections that are kept since
@@ -292,10 +299,14 @@ module _ (y : System) (s : IsSystem y) (w : World) (first : SimulatesBut y s w a
         let one = is_taken_up y s w k below h.stands not_yet sooner in
         let same = others_same y s b one.next k one.origin one.schedule in
         let passed_by = each_taken y s w k below h.stands one not_yet
-        (λ (n : ℕ) (inside : n < thread_count y) (g : ThreadGhost). ArePassed y false 0 b (h.stands.ghosts n) one.next g n)
-        (own_taken y b one.next k mine not_yet bound
+        (λ (n : ℕ) (inside : n < thread_count y) (g : ThreadGhost). (h.stands.ghosts n).late ≡ false →
+        ArePassed y false 0 b (h.stands.ghosts n) one.next g n)
+        (λ on_time. own_taken y b one.next k mine not_yet bound on_time
         (subst (ComesToBoundary y b mine) (s.codes.number k below) (comes y s w b (s.codes.each k below) mine (h.stands.each k below) not_yet)) one.own_begun)
-        (λ n inside apart. others_taken y b one.next k n (h.stands.ghosts n) (one.others_begun n apart) (one.others_done n apart)) in
+        (λ n inside apart on_time. others_taken y b one.next k n (h.stands.ghosts n) (one.others_begun n apart) (one.others_done n apart)) in
+        let stays_on_time = each_taken y s w k below h.stands one not_yet
+        (λ (n : ℕ) (inside : n < thread_count y) (g : ThreadGhost). (h.stands.ghosts n).late ≡ false → g.late ≡ false) (λ on_time. refl)
+        (λ n inside apart on_time. on_time) in
         record {
           stands = after y s w k below h.stands one not_yet sooner;
           source = one.source ∙ h.source;
@@ -306,10 +317,11 @@ module _ (y : System) (s : IsSystem y) (w : World) (first : SimulatesBut y s w a
           last = h.last;
           accesses = h.accesses;
           states = one.states ∙ h.states;
-          passed = λ n inside.
+          on_time = λ n inside on_time. stays_on_time n inside (h.on_time n inside on_time);
+          passed = λ n inside on_time.
               then_passes y false 0 first.abstract b one.next (first.ghosts n) (h.stands.ghosts n)
-              ((after y s w k below h.stands one not_yet sooner).ghosts n) n (h.passed n inside)
-              (passed_by n inside);
+              ((after y s w k below h.stands one not_yet sooner).ghosts n) n (h.passed n inside on_time)
+              (passed_by n inside (h.on_time n inside on_time));
           counted = λ g steps r counted.
               counted_after y s w k below h.stands one not_yet g (with_all_kept w.log w.words k steps) r (h.counted g steps r counted) bound reached;
           ends = λ n. elim (same_or_other n k) [
@@ -339,6 +351,7 @@ module _ (y : System) (s : IsSystem y) (w : World) (first : SimulatesBut y s w a
       accesses = h.accesses;
       states = h.states;
       passed = h.passed;
+      on_time = h.on_time;
       counted = λ g steps r counted.
           let later = h.counted g steps r counted in
           subst (λ (z : Steps). AreCounted y g w h.stands.abstract h.stands.ghosts z r)
@@ -381,7 +394,8 @@ module _ (y : System) (s : IsSystem y) (w : World) (first : SimulatesBut y s w a
     last = λ n. refl;
     accesses = λ n. refl;
     states = refl;
-    passed = λ n inside. omega arith;
+    passed = λ n inside on_time. omega arith;
+    on_time = λ n inside on_time. on_time;
     counted = λ g steps r counted. counted;
     ends = λ n. same_end y first.abstract first.abstract n (record { sections = refl; between = refl });
     same_later = λ n later. record { sections = refl; between = refl };

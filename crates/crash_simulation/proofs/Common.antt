@@ -164,6 +164,7 @@ pub use Rattle.thread_runs.proofs.Public.{next_follows, marks_are_bounded, locks
 pub use Rattle.thread_runs.proofs.Public.{threads_start, locks_go_on, any_at, stays_are_at_core, computes_end}
 pub use Rattle.recovered_threads.specs.Laws.{AssignsAlike, AtBoundary, AreRecordsApart, IsBoundaryAt, after_lock, before_core, of_unlock}
 pub use Rattle.recovered_threads.specs.RecordDescriptions.{Code, IsOrderly, ResumesAt, Describes, past_lock, at_chosen, AllDescribe, past_unlock, between}
+pub use Rattle.recovered_threads.specs.RecordDescriptions.{DescribesAs, IsPastAssignment}
 pub use Rattle.recovered_threads.specs.RecordDescriptions.{inside, IsCountedWord, IsNumberAssigned, NodePlace, the_core, the_entry, words_in}
 pub use Rattle.recovered_threads.specs.RecoveryStates.{Gathers, HasGathered, AreGathered, AreGathering, Awaits, IsRecoveredHart, ResumesThread, HasRecord}
 pub use Rattle.recovered_threads.proofs.Public.{same_there, same_or_other, holds_none_is, boundaries_recover, commits_describe, others_describe, gathered_on}

@@ -346,7 +346,8 @@ module _ {y : System} {s : IsSystem y} {w : World} {h : ℕ} (site : Site y s w 
       gone = subst GoneOn (sym d.on.on.runs) tt;
       held = held_still site next new d.holders refl refl refl;
       counted = record {
-        marks =
+        late = refl;
+        marks = λ on_time.
             (law y.plan code.thread places y.runs.program w n o.environment stage left (c.cleans ++ c.rest) sound fragment).1 y.runs.marks
             (sym (fragment.meets.marks ∙ ap (λ (p : Program). p.nodes) (code.is.of_program ∙ (s.own h site.below).program)));
         unlocked = λ mutex gives. was_unlocked refl gives;
@@ -355,7 +356,7 @@ module _ {y : System} {s : IsSystem y} {w : World} {h : ℕ} (site : Site y s w 
         fences = fences;
         nears = is_nearer nearer.0;
         told = refl;
-        begins_told = λ no. absurd (true≢false (sym no));
+        begins_told = λ on_time no. absurd (true≢false (sym no));
         last = λ word. refl;
         accesses = λ byte. refl;
       };

@@ -1,4 +1,6 @@
 -- A thread whose hart makes no step: after what others do, and where nobody does anything, its invariant still holds.
+use Rattle.crash_simulation.specs.ThreadGhosts.{at_past}
+use Rattle.crash_simulation.proofs.Common.{DescribesAs}
 use Rattle.crash_simulation.proofs.Common.{◌≡◌, ◌≢◌, ℕ, List, sym, ◌∙◌, ap, arith, subst, true, false, Option, Some, refl, suc, ◌<◌, [], ◌++◌, length, inr}
 use Rattle.crash_simulation.proofs.Common.{slice_get, append-nil, ◌≤◌, ℤ, ◌/◌, le-max_right, PersistsThrough, AreChanged, byte_number, variable_at, Word, Entry}
 use Rattle.crash_simulation.proofs.Common.{Event, Step, are_persisted_refl, changed_refl, IsWellFormed, Guards, held_by, run_keeps, leaves_held}
@@ -194,7 +196,7 @@ module _ (y : System) (b next : AbstractRun y) (code : Code y.plan) (c : ThreadG
     pub graph_thread : slice_get (now_of y next).graph_threads n ≡ slice_get (now_of y b).graph_threads n
     pub holds : held_by n (now_of y next).holders ≡ held_by n (now_of y b).holders
     pub alike : AssignsAlike y.plan code.thread (now_of y b) (now_of y next)
-    pub describes : Describes y.plan code (kept_of y b) (record_kept c) → Describes y.plan code (kept_of y next) (record_kept c)
+    pub describes : DescribesAs y.plan code (kept_of y b) c.late (record_kept c) → DescribesAs y.plan code (kept_of y next) c.late (record_kept c)
     pub last : (mutex : ℕ) → LastUnlocks b.origin.source b.schedule n mutex → LastUnlocks next.origin.source next.schedule n mutex
     pub nodes : (k : ℕ) → k < (attempt_of b.config n).done → node_after (flat_of y) (kept_of y next) n k ≡ node_after (flat_of y) (kept_of y b) n k
     pub writes_back : (k v e : ℕ) → k < (attempt_of b.config n).done → WritesAt next.config.kept n k v e → WritesAt b.config.kept n k v e
@@ -324,7 +326,7 @@ module _ (y : System) (b next : AbstractRun y) (code : Code y.plan) (c : ThreadG
         records = record {
           no_sooner = λ is. committed_on t.log m (t.records.no_sooner is);
           describes = still.describes t.records.describes;
-          will_describe = λ un. others_describe y.plan code (now_of y b) (now_of y next) c.new (t.records.will_describe un) still.graph_thread still.holds
+          will_describe = λ un. others_describe y.plan code (now_of y b) (now_of y next) false c.new (t.records.will_describe un) still.graph_thread still.holds
               still.alike;
           unlocked = λ mutex gave over. still.last mutex (t.records.unlocked mutex (gives mutex gave) over);
         };
@@ -363,7 +365,24 @@ module _ (y : System) (b next : AbstractRun y) (code : Code y.plan) (c : ThreadG
         goes = clean_on y still.on false graph_thread o.goes;
         fresh = λ chosen. still.on.done ∙ o.fresh chosen;
         told = o.told;
-        untold = λ plain none. o.untold plain (sym still.on.begun ∙ none);
+        untold = λ plain on_time none. o.untold plain on_time (sym still.on.begun ∙ none);
+        soon = o.soon;
+      })
+      runs_on hart graph_thread walks (at_past o) = at_past (record {
+        late = o.late;
+        view = o.view;
+        at_side = o.at_side;
+        frame = views o.view o.frame;
+        node = o.node;
+        logged = o.logged;
+        goes_to = o.goes_to;
+        owed = o.owed;
+        number = o.number;
+        registers = o.registers;
+        core = cores_see_all y.plan code.thread code.is.places v n o.node _ o.view o.owed o.registers (now_of y next).variables
+            (left.cores o.node _ o.view o.owed o.registers o.core);
+        beside = o.beside;
+        goes = clean_on y still.on false graph_thread o.goes;
         soon = o.soon;
       })
 

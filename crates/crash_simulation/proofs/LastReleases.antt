@@ -1,7 +1,7 @@
 -- Releases of a hart's last mutex, and threads that leave a section.
 use Rattle.crash_simulation.proofs.Common.{◌≡◌, ◌≢◌, ℕ, List, sym, ◌∙◌, ap, arith, true, false, Option, Some, None, refl, Bool, ◌==◌, slice_get, ◌&&◌, not}
 use Rattle.crash_simulation.proofs.Common.{eq-eqb, ◌≤◌, is_some, and_left, and_right, false_from_ne_true, ne_eqb, nat_tests, holds_none, Step, World}
-use Rattle.crash_simulation.proofs.Common.{after_event, releases_last, Slot, FlowState, Record, Code, Describes, holds_none_is, is_leaving, one_if, System}
+use Rattle.crash_simulation.proofs.Common.{after_event, releases_last, Slot, FlowState, Record, Code, Describes, DescribesAs, holds_none_is, is_leaving, one_if, System}
 use Rattle.crash_simulation.proofs.Common.{ThreadGhost}
 
 -- ---- Holders
@@ -53,3 +53,9 @@ uncommitted_leaving c is = and_left c.committed _ is
 pub describes_test : (y : System) (code : Code y.plan) (kept : FlowState) (r : Record) → Describes y.plan code kept r →
     (r.point == 0) ≡ holds_none kept.holders code.thread.number
 describes_test y code kept r h4 = grind (arith, ne_eqb)
+
+-- late or not
+pub describes_test_as : (y : System) (code : Code y.plan) (kept : FlowState) (late : Bool) (r : Record) → DescribesAs y.plan code kept late r →
+    (r.point == 0) ≡ holds_none kept.holders code.thread.number
+describes_test_as y code kept false r describes = describes_test y code kept r describes
+describes_test_as y code kept true r past = ne_eqb r.point 0 past.point ∙ sym past.holds

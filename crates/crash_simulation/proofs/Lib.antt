@@ -13,6 +13,7 @@ mod BeginningFrames
 mod FrameStores
 mod LoggedNodeSteps
 mod LocalStoreSteps
+mod PastStoreSteps
 mod StatesMatchSource
 mod StepsAfterMarks
 mod RecordsAfterCrash

@@ -1,4 +1,5 @@
 -- Where threads begin with whole bodies, in memory whose numbers are stable, the machine simulates an abstract run that begins there.
+use Rattle.crash_simulation.proofs.Common.{false}
 use Rattle.crash_simulation.proofs.Common.{IsPlan, IsThread, Thread}
 use Rattle.crash_simulation.proofs.Common.{IsSectioned, LogView, inl, inr}
 use Rattle.expr_code.specs.declared.home.Home.TheVariants.{InFrame}
@@ -91,7 +92,7 @@ module _ (y : System) (s : IsSystem y) (o : Origin (flat_of y)) (v : World) (lif
   }
 
   abbrev ghosts : ℕ → ThreadGhost
-  ghosts n = resting_ghost y nothing_recorded n
+  ghosts n = resting_ghost y false nothing_recorded n
 
   none_done : (n : ℕ) → (attempt_of abstract.config n).done ≡ 0
   none_done n = ap (λ (a : Attempt). a.done) (none_yet (flat_of y).threads n)
@@ -169,7 +170,7 @@ module _ (y : System) (s : IsSystem y) (o : Origin (flat_of y)) (v : World) (lif
               is = ap (λ (registers : List ℕ). config registers at.hart.pc) at.registers ∙ ap (config (replicate 32 0)) (at.pc ∙ start);
             })
             (enters code);
-        fits = (record { going = sym (none_done number); rest = refl; giving = refl; committed = refl }, refl, λ none. refl);
+        fits = (record { going = sym (none_done number); rest = refl; giving = refl; committed = refl }, refl, λ on_time none. refl);
         owes = tt;
         soon =
             let all = entry_soon y s n below code.thread.part.first (length hart.queue) (first_node code) (life.machine.short number hart here) in
@@ -190,7 +191,7 @@ module _ (y : System) (s : IsSystem y) (o : Origin (flat_of y)) (v : World) (lif
       let at = life.fresh number inside in
       let runs : Run ≡ log.hart.phase = sym at.runs ∙ ap (λ (h : Hart). h.phase) (same_Some _ _ (sym at.here ∙ log.here)) in
       let none = free_holds_none number 0 (kept_of y abstract).holders not_held in
-      resting_thread y v abstract code nothing_recorded n (graph_thread code) log (between none refl) (none_done number) (walks code)
+      resting_thread y v abstract code false nothing_recorded n (graph_thread code) log (between none refl) (none_done number) (walks code)
       (subst (λ (p : Phase). InPhase y v abstract code (ghosts n) log.hart (graph_thread code) p) runs
       (on_fragment Arrives 0 (on_its_fragment n below log.hart log.here))) (λ sectioned. absurd (outside n sectioned))
 

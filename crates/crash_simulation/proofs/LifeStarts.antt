@@ -126,7 +126,7 @@ module _ (y : System) (s : IsSystem y) (w : World) (old : Simulates y s w) where
       (ap₂ (λ (earlier : List (List ℕ)) (kept : List ℕ). first_steps (record { earlier = earlier ++ kept ∷ []; schedule = [] }))
       (sym counted.earlier) (sym counted.kept))
       (begun_counted y s (next_beginning y g b.schedule) (life_now may)
-      (ap (λ (from : State). restart (flat_of y) (after_from from b.schedule)) counted.begins) refl refl (λ n. refl))
+      (ap (λ (from : State). restart (flat_of y) (after_from from b.schedule)) counted.begins) refl refl (λ n. refl) (λ n below. refl))
 
   life_anew : (may : can_start w ≡ true) → HasBegun y s (started_anew program w) (life_now may)
   life_anew may =

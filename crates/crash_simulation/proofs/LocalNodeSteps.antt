@@ -105,7 +105,7 @@ module _ {y : System} {s : IsSystem y} {w : World} {h : ℕ} (site : AtNode y s 
 
     -- a local that is stored outside sections: no record has a point
     point_none : passing.SetsLater site e → c.new.point ≡ 0
-    point_none later = point_outside y s b code going graph_thread t.walks site.core.core.own c.new
+    point_none later = point_outside y s b code going graph_thread t.walks site.core.core.own c.late c.new
         (describes_over y b code c t.records site.core.goes.goes.committed) (none_held e later)
       where
         set_none : (home : Home) (held : List LockName) → passing.SetsIn home held → held ≡ []

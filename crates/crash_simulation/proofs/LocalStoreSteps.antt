@@ -247,7 +247,8 @@ module _ {y : System} {s : IsSystem y} {w : World} {h : ℕ} (site : Site y s w 
       gone = subst GoneOn (sym g.on.on.runs) tt;
       held = held_still site b new holders_stay refl refl (sym goes.giving);
       counted = record {
-        marks =
+        late = refl;
+        marks = λ on_time.
             (law y.plan code.thread places y.runs.program w n (bare y s w h site.below) stage at_store.steps (Stores fragment.of_graph.word 8 value ∷ []) sound
             at_store.on).1 y.runs.marks (sym (at_store.on.meets.marks ∙ ap (λ (p : Program). p.nodes) (code.is.of_program ∙ (s.own h site.below).program)));
         unlocked = λ mutex gives. absurd (none-some mutex gives);
@@ -260,7 +261,7 @@ module _ {y : System} {s : IsSystem y} {w : World} {h : ℕ} (site : Site y s w 
             (g.point ∙ (ap (is_point_store w.log n) effect_is ∙ ne_eqb _ _ (frame_not_point w.log n own))));
         nears = is_nearer nearer.0;
         told = ap (λ (r : Record). is_some r.written) (sym (cond-true c.committed c.new c.old goes.committed));
-        begins_told = λ no. absurd (true≢false (sym no));
+        begins_told = λ on_time no. absurd (true≢false (sym no));
         last = λ word. refl;
         accesses = λ byte. refl;
       };
@@ -273,6 +274,3 @@ module _ {y : System} {s : IsSystem y} {w : World} {h : ℕ} (site : Site y s w 
       (sym (ap is_store (at_store.first u.drains.effect u.drains.effect_is)) ∙ held_up_stores_none u.drains.effect at_store.on.on.hart.queue u.drains.held_up)))
       (law y.plan code.thread places y.runs.program w n (bare y s w h site.below) stage at_store.steps (Stores fragment.of_graph.word 8 value ∷ []) sound
       at_store.on).0
-
-pub local_stores_step : FragmentsGoOn → LocalStoresStep
-local_stores_step law y s w h site i from local number o = own_step site i (store_step site from local number o law)

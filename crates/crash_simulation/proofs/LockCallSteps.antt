@@ -1,4 +1,5 @@
 -- A hart at its call, and at one that asks for a mutex: it takes it, or waits.
+use Rattle.crash_simulation.proofs.Common.{DescribesAs}
 use Rattle.crash_simulation.proofs.Common.{cond-true, is_some, node_of, option_map, steps_begun}
 use Rattle.crash_simulation.specs.InstructionSteps.{IsTold}
 use Rattle.crash_simulation.specs.ThreadGhosts.{tells_write}
@@ -70,11 +71,6 @@ none_from n at (Some u ∷ holders) free =
 lock_or_end : (lock : LockName) (next : ℕ) → Lock lock next ≡ End → ⊥
 lock_or_end lock next e = cc
 
--- what a record says of a thread that holds nothing
-pub point_none : (y : System) (code : Code y.plan) (kept : FlowState) (r : Record) → Describes y.plan code kept r →
-    holds_none kept.holders code.thread.number ≡ true → r.point ≡ 0
-point_none y code kept r describes free = grind (arith, nat_tests)
-
 -- ---- A hart at the end of its fragment
 
 -- where harts hold what their threads do
@@ -130,7 +126,7 @@ module _ {y : System} {s : IsSystem y} {w : World} {h : ℕ} {exit : ExitPoint} 
   committed_over = caught_is_over y w b code c t rest_over (at.site.stands.caught_up h at.site.below (λ e. e))
 
   -- the record that is taken as committed describes the kept state
-  pub describes_new : Describes y.plan code (kept_of y b) c.new
+  pub describes_new : DescribesAs y.plan code (kept_of y b) c.late c.new
   describes_new = describes_over y b code c t.records committed_over
 
   -- the hart's instruction is a call, which stores nothing
@@ -217,14 +213,15 @@ module _ {y : System} {s : IsSystem y} {w : World} {h mutex next : ℕ} (at : At
         gone = on.1;
         held = held_still at.site b c (ap (λ (x : World). x.holders) still) refl refl refl;
         counted = record {
-          marks = l.1 y.runs.marks;
+          late = refl;
+          marks = λ on_time. l.1 y.runs.marks;
           unlocked = λ lock gives. was_unlocked refl gives;
           points = points_none at at_lock;
           bound = λ e. e;
           fences = fences_still at at_lock;
           nears = moving.waits mutex holder l.0 refl;
           told = refl;
-          begins_told = λ no. absurd (true≢false (sym no));
+          begins_told = λ on_time no. absurd (true≢false (sym no));
           last = last_still at at_lock;
           accesses = accesses_still at at_lock;
         };
@@ -339,7 +336,7 @@ module _ {y : System} {s : IsSystem y} {w : World} {h mutex next : ℕ} (at : At
       where
         by : (names : List LockName) → held_names_before y.plan code.thread graph_thread.at ≡ names → (b_next.opens ≡ true) ⊎ (c.new.point ≢ 0)
         by [] none = inl (ap (λ (names : List LockName). length names == 0) none)
-        by (name ∷ names) some = inr (point_held y s b code goes_clean.goes.going graph_thread t.walks asks.own c.new (describes_new at)
+        by (name ∷ names) some = inr (point_held y s b code goes_clean.goes.going graph_thread t.walks asks.own c.late c.new (describes_new at)
             (λ none. (let both = sym some ∙ none in cc)))
 
     log_first : LogInv n c.new then_record w then_ghost.rest
@@ -436,7 +433,7 @@ module _ {y : System} {s : IsSystem y} {w : World} {h mutex next : ℕ} (at : At
             -- the mutex that it has taken is among them
             locks_held : b_next.locks ≢ []
             locks_held none =
-                point_where begins_there.describes (holds_some n (now_of y then_abstract).holders mutex
+                point_where code (now_of y then_abstract) false _ begins_there.describes (holds_some n (now_of y then_abstract).holders mutex
                 (ap (λ (x : FlowState). slice_get x.holders mutex) now_is ∙ get-set_same (now_of y b).holders mutex (Some n) None now_is_free))
                 (points_end b_next begins_there.framed frame at.o.view.side resume asks.registers (ap is_empty none))
 
@@ -481,12 +478,12 @@ module _ {y : System} {s : IsSystem y} {w : World} {h mutex next : ℕ} (at : At
     told_new : tells_write c ≡ is_some c.new.written
     told_new = ap (λ (r : Record). is_some r.written) (cond-true c.committed c.new c.old (committed_over at))
 
-    told_here : true ≡ true → steps_begun b.config n ≡ 0 → (node : ℕ) → node_of (now_of y b) n ≡ Some node → IsTold y node (tells_write c)
-    told_here begun first node stands =
+    told_here : c.late ≡ false → true ≡ true → steps_begun b.config n ≡ 0 → (node : ℕ) → node_of (now_of y b) n ≡ Some node → IsTold y node (tells_write c)
+    told_here on_time begun first node stands =
         let same : graph_thread.at ≡ node = same_Some _ _ (sym (ap (option_map (λ (z : GraphThread). z.at)) t.walks) ∙ stands) in
         subst (λ (k : ℕ). IsTold y k (tells_write c)) same (
           λ chosen. absurd (lock_plain (chosen_writes y s graph_thread.at lock_here.is lock_here.at chosen) lock_here.locks),
-          λ plain. told_new ∙ at.o.fits.1 first,
+          λ plain. told_new ∙ at.o.fits.1 on_time first,
         )
 
     takes_mutex : StepOf at.site n
@@ -503,7 +500,8 @@ module _ {y : System} {s : IsSystem y} {w : World} {h mutex next : ℕ} (at : At
           (ap (λ (x : FlowState). length x.graph_threads) now_is ∙ length-set (now_of y b).graph_threads n moved_thread)) held mutex free now_is_free
           (holders_after at moving_hart) (ap (λ (x : FlowState). x.holders) now_is) (sym (own_giving at.site) ∙ goes_clean.goes.giving) refl;
       counted = record {
-        marks = it.mark y.runs.marks refl;
+        late = refl;
+        marks = λ on_time. it.mark y.runs.marks refl;
         unlocked = λ lock gives. absurd (none-some lock gives);
         points = it.counts.0 ∙ sym (ap (λ (x : Bool). not (is_bound c) && x) (ap not (boundary_stores b_next at.o.view.side resume asks.registers))
             ∙ and_none (not (is_bound c)));
@@ -513,7 +511,7 @@ module _ {y : System} {s : IsSystem y} {w : World} {h mutex next : ℕ} (at : At
             (stores_point y.runs.program w (Step n) n) rest then_ghost.rest) (sym goes_clean.goes.rest)
             (begins_fences (boundary_fences y.plan.log) _ _ then_ghost.rest it.counts.1 it.counts.0
             (boundaries_fence b_next at.o.view.side resume asks.registers) (boundary_stores b_next at.o.view.side resume asks.registers));
-        nears = begins_step refl;
+        nears = begins_step (it.mark y.runs.marks refl);
         told = sym told_new;
         begins_told = told_here;
         last = last_still at at_lock;

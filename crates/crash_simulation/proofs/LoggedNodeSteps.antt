@@ -49,7 +49,7 @@ pub record AssignsLogged {y : System} {s : IsSystem y} {w : World} {h : ℕ} (si
   pub held : List LockName
   pub holds : held_names_before y.plan (view site.hart).code.thread (view site.hart).graph_thread.at ≡ name ∷ held
 
-framed_in : (r : Record) (word : ℕ) → Contains (framed_of r) word → Contains r.framed word
+pub framed_in : (r : Record) (word : ℕ) → Contains (framed_of r) word → Contains r.framed word
 framed_in r word has = cond_both (r.point == 0) [] r.framed (λ words. Contains words word → Contains r.framed word) (λ none c. absurd (contains_none word c))
     (λ some c. c) has
 

@@ -209,7 +209,7 @@ module _ {y : System} {s : IsSystem y} {w : World} {h : ℕ} (site : AtNode y s 
     begun_next = omega (arith, counted_own n b.config.uncommitted)
 
     untold : IsUntold y next.config n new new.new
-    untold none = absurd (omega (arith, none, begun_next))
+    untold on_time none = absurd (omega (arith, none, begun_next))
 
     arrives_next : IsInAttempt y next.config n new × (graph_thread.ended ≡ false) × IsUntold y next.config n new new.new
     arrives_next = (goes_next, site.core.goes.execution, untold)
@@ -386,7 +386,8 @@ module _ {y : System} {s : IsSystem y} {w : World} {h : ℕ} (site : AtNode y s 
             (ap (λ (z : FlowState). length z.graph_threads) state ∙ graph_threads_count (now_of y b) n graph_thread effect)
             (sym site.core.goes.goes.giving);
         counted = record {
-          marks = o.passes.mark y.runs.marks refl ∙ sym o.is_step;
+          late = refl;
+          marks = λ on_time. o.passes.mark y.runs.marks refl ∙ sym o.is_step;
           unlocked = λ mutex gives. absurd (none-some mutex gives);
           points = points;
           bound = bound;
@@ -394,7 +395,7 @@ module _ {y : System} {s : IsSystem y} {w : World} {h : ℕ} (site : AtNode y s 
               subst (λ (rest : List Effect). AreFencesCounted (boundary_fences y.plan.log) (finishes_fence y.runs.program w (Step n) n)
               (stores_point y.runs.program w (Step n) n) rest []) (sym site.core.goes.goes.rest)
               (same_fences (boundary_fences y.plan.log) _ _ [] (o.passes.fence ∙ o.no_fence) (o.passes.point ∙ o.no_point));
-          nears = begins_step o.is_step;
+          nears = begins_step (o.passes.mark y.runs.marks refl);
           told = sym (told_new site);
           begins_told = told_at site;
           last = λ word. refl;

@@ -1,11 +1,12 @@
 -- A step of a thread's own hart: what the machine is to know of it.
+use Rattle.crash_simulation.proofs.Common.{false}
 use Rattle.crash_simulation.proofs.Common.{Bool, Record, cond-true, is_some, node_of, option_map, same_Some, steps_begun}
 use Rattle.crash_simulation.specs.InstructionSteps.{IsTold}
 use Rattle.crash_simulation.specs.ThreadGhosts.{tells_write}
 use Rattle.crash_simulation.proofs.Common.{◌≡◌, ℕ, List, sym, ◌∙◌, ap, arith, subst, true, Option, Some, None, refl, [], length, slice_get, nat_tests, Step}
 use Rattle.crash_simulation.proofs.Common.{Log, Hart, World, after_event, Effect, Run, Seen, GraphThread, FlowState, seen_by, boundary_effects, IsOnSide}
 use Rattle.crash_simulation.proofs.Common.{Attempt, Memory, memory_in, recorded_by, IsRecoverable, LogInv, IsSideOf, IsElsewhere, config_of, IsNext}
-use Rattle.crash_simulation.proofs.Common.{steps_keep, ends_committed, begins_standing, IsInPhase, Places, Code, Describes, AbstractRun, kept_of, now_of}
+use Rattle.crash_simulation.proofs.Common.{steps_keep, ends_committed, begins_standing, IsInPhase, Places, Code, DescribesAs, AbstractRun, kept_of, now_of}
 use Rattle.crash_simulation.proofs.Common.{begins, Site, OwnStep, Releases, StepsOrStutters, with_ghost, MayStore, thread_of, IsCounted, AtCoreNow, AreHeld}
 use Rattle.crash_simulation.proofs.Common.{System, IsSystem, places_of, ThreadGhost, ThreadInv, committed, HasRecords, AreNamed, Boundary, FrameIsComing}
 use Rattle.crash_simulation.proofs.Common.{contains_none, nothing_recorded, same_there}
@@ -25,6 +26,7 @@ going c cleans before_mark last_stores first_accesses = record {
   cleans = cleans;
   giving = None;
   before_mark = before_mark;
+  late = c.late;
   last_stores = last_stores;
   first_accesses = first_accesses;
 }
@@ -166,14 +168,14 @@ module _ {y : System} {s : IsSystem y} {w : World} {h : ℕ} (site : AtNode y s 
   records_going next same cleans before_mark last_stores first_accesses log =
       records_over y next code (going c cleans before_mark last_stores first_accesses) refl refl
       (ends_committed v.log n nothing_recorded c.new (config_of v log.hart []) log.log refl)
-      (subst (λ (kept : FlowState). Describes y.plan code kept c.new) (sym same) (describes_over y b code c t.records site.core.goes.goes.committed))
+      (subst (λ (kept : FlowState). DescribesAs y.plan code kept c.late c.new) (sym same) (describes_over y b code c t.records site.core.goes.goes.committed))
 
   -- what the kept record tells of a write
   pub told_new : tells_write c ≡ is_some c.new.written
   told_new = ap (λ (r : Record). is_some r.written) (cond-true c.committed c.new c.old site.core.goes.goes.committed)
 
-  pub told_at : {begun : Bool} → begun ≡ true → steps_begun b.config n ≡ 0 → (node : ℕ) → node_of (now_of y b) n ≡ Some node → IsTold y node (tells_write c)
-  told_at begun first node stands =
+  pub told_at : {begun : Bool} → c.late ≡ false → begun ≡ true → steps_begun b.config n ≡ 0 → (node : ℕ) → node_of (now_of y b) n ≡ Some node → IsTold y node (tells_write c)
+  told_at on_time begun first node stands =
       let same : (view site.hart).graph_thread.at ≡ node = same_Some _ _ (sym (ap (option_map (λ (z : GraphThread). z.at)) t.walks) ∙ stands) in
       subst (λ (k : ℕ). IsTold y k (tells_write c)) same
-      (λ chosen. told_new ∙ site.core.told chosen, λ plain. told_new ∙ site.core.untold plain first)
+      (λ chosen. told_new ∙ site.core.told chosen, λ plain. told_new ∙ site.core.untold plain on_time first)

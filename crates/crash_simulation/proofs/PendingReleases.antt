@@ -1,4 +1,5 @@
 -- Where a thread is, by what it has begun: at a boundary that isn't committed, or giving back a mutex that it has unlocked.
+use Rattle.crash_simulation.specs.ThreadGhosts.{at_past}
 use Rattle.crash_simulation.proofs.Common.{◌≡◌, ℕ, ℤ, Computes, sym, ◌∙◌, arith, false, Some, refl, ◌⊎◌, inl, inr, true≢false, ⊎_elim, nat_tests, World}
 use Rattle.crash_simulation.proofs.Common.{Phase, Done, Run, Ended, HasUnlocked, ExitPoint, Arrives, Gives, Ends, Keeps, Asks, Took, Code, AbstractRun}
 use Rattle.crash_simulation.proofs.Common.{System, Rests, ThreadGhost, on_fragment, at_core, InPhase, ThreadInv, IsRunningThread, IsBounded, ExitInv}
@@ -40,6 +41,7 @@ module _ (y : System) (w : World) (b : AbstractRun y) (code : Code y.plan) (c : 
   by_run runs (on_fragment to steps o) =
       ⊎_elim (λ attempt. goes attempt) (λ exit. is_at (record { runs = runs; to = to; steps = steps; on = o; exit = exit })) (by_exit to o.fits)
   by_run runs (at_core o) = goes o.goes.goes
+  by_run runs (at_past o) = goes o.goes.goes
 
   by_phase : (phase : Phase) → t.log.hart.phase ≡ phase → InPhase y w b code c t.log.hart t.graph_thread phase → IsSomewhere
   by_phase Run is p = by_run is p

@@ -1,4 +1,5 @@
 -- A hart that executes instructions is in a fragment, at a call, at the store of a local outside sections, or at the code of a node that takes no mutex.
+use Rattle.crash_simulation.specs.ThreadGhosts.{at_past}
 use Rattle.crash_simulation.proofs.Common.{cond-true}
 use Rattle.crash_simulation.specs.ThreadGhosts.{tells_write}
 use Rattle.crash_simulation.proofs.Common.{LockName, is_some}
@@ -306,7 +307,7 @@ module _ {y : System} {s : IsSystem y} {w : World} {h : ℕ} (site : Site y s w 
     ghost = begins_with c new_record (boundary_effects boundary old.side resume registers) None c.before_mark
 
     was_in_section : new_record.point ≢ 0 → c.new.point ≢ 0
-    was_in_section some = point_before y s b code going (describes_over y b code c t.records no_boundary) begins.describes some
+    was_in_section some = point_before y s b code going c.late c.new (describes_over y b code c t.records no_boundary) begins.describes some
 
     sectioned : IsSectioned ghost → IsSectioned c
     sectioned (inl some) = inl (was_in_section some)
@@ -414,6 +415,7 @@ module _ {y : System} {s : IsSystem y} {w : World} {h : ℕ} (site : Site y s w 
       last = refl;
       accesses = refl;
       told = said;
+      late = refl;
     }
 
     -- ---- The machine, where that is the thread's ghost state
@@ -430,7 +432,8 @@ module _ {y : System} {s : IsSystem y} {w : World} {h : ℕ} (site : Site y s w 
         (λ m within other. (site.stands.each m within, site.stands.caught_up m within (λ e. e), λ e. absurd (other e)))
 
     says_same : (m : ℕ) → SaysSame (new m) (site.stands.ghosts m)
-    says_same = grind (arith, each_ghost, says)
+    says_same = each_ghost site.stands.ghosts h ghost (λ (m : ℕ) (g : ThreadGhost). SaysSame g (site.stands.ghosts m)) says
+        (λ m other. record { bound = refl; leaving = refl; giving = refl; ahead = refl; last = refl; accesses = refl; told = refl; late = refl })
 
     -- its boundary has begun
     fences_begin : (m : ℕ) → AreFencesCounted (boundary_fences y.plan.log) false false (site.stands.ghosts m).rest (new m).rest
@@ -487,7 +490,7 @@ module _ {y : System} {s : IsSystem y} {w : World} {h : ℕ} (site : Site y s w 
     site = site;
     similar = record {
       abstract = refl;
-      same = λ n. record { bound = refl; leaving = refl; giving = refl; ahead = refl; last = refl; accesses = refl; told = refl };
+      same = λ n. record { bound = refl; leaving = refl; giving = refl; ahead = refl; last = refl; accesses = refl; told = refl; late = refl };
       fences = λ n. same_fences (boundary_fences y.plan.log) false false (site.stands.ghosts n).rest refl refl;
     };
     ready = ready;
@@ -532,7 +535,7 @@ module _ {y : System} {s : IsSystem y} {w : World} {h : ℕ} (site : Site y s w 
         fits = (
           record { going = going; rest = right_empty c.cleans c.rest none; giving = a.fits.gives; committed = settled site a },
           a.fits.execution,
-          λ none. a.fits.written,
+          λ on_time none. a.fits.written,
         );
         owes = tt;
         soon = less_soon y n c.before_mark _ _ a.soon (omega (arith, some.short));
@@ -541,7 +544,7 @@ module _ {y : System} {s : IsSystem y} {w : World} {h : ℕ} (site : Site y s w 
   by_exit : (exit : ExitPoint) (steps : ℕ) → IsAt site exit steps → Result
   by_exit Arrives steps = arrives steps
   by_exit (Keeps owed) steps = λ a. as_it_is (keeps_at site owed steps a)
-  by_exit (Computes from local number) zero = λ a. as_it_is (moving.stores_local from local number a)
+  by_exit (Computes from local number) zero = λ a. as_it_is (moving.stores_local (moving.outside from local number a))
   by_exit (Computes from local number) (suc k) = goes_on k
   by_exit (Asks mutex next) steps = calling (asks mutex next)
   by_exit (Took from) zero = took from
@@ -552,6 +555,7 @@ module _ {y : System} {s : IsSystem y} {w : World} {h : ℕ} (site : Site y s w 
   in_run : IsRunningThread y w b code c t.log.hart graph_thread → Result
   in_run (on_fragment exit steps o) = by_exit exit steps o
   in_run (at_core core) = as_it_is (core_ready site core)
+  in_run (at_past past) = as_it_is (moving.stores_local (moving.again past))
 
   ready : Result
   ready =

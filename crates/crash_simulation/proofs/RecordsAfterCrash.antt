@@ -1,4 +1,5 @@
 -- What a crash would leave describes the kept state.
+use Rattle.crash_simulation.proofs.Common.{DescribesAs}
 use Rattle.crash_simulation.proofs.Common.{◌≡◌, ℕ, List, sym, ◌∙◌, ap, subst, true, Option, ◌<◌, [], Bool, if◌then◌else◌, map, holds_none, State, World}
 use Rattle.crash_simulation.proofs.Common.{durable_point, Memory, durable_number, between_is_kept, LogInv, Record, config_of, LogConfig, left_by_crash}
 use Rattle.crash_simulation.proofs.Common.{log_facts, ends_committed, Code, Describes, AllDescribe, points_settle, AbstractRun, kept_of, SettledIsKept}
@@ -33,9 +34,13 @@ module _ (y : System) (s : IsSystem y) (w : World) (stands : Simulates y s w) wh
       ap (λ (k : ℕ). left_by_crash w.log k c.old c.new (seen c)) (sym (s.codes.number n below))
       ∙ ap (λ (done : Bool). if done then c.new else c.old) (stands.caught_up n below (λ e. e))
 
-  pub left_describes : AllDescribe y.plan s.codes (kept_of y stands.abstract) left
+  -- whether their threads are late
+  abbrev pub lates : ℕ → Bool
+  lates n = (stands.ghosts n).late
+
+  pub left_describes : AllDescribe y.plan s.codes (kept_of y stands.abstract) lates left
   left_describes n below =
-      subst (Describes y.plan (s.codes.each n below) (kept_of y stands.abstract)) (sym (left_kept n below)) (stands.each n below).records.describes
+      subst (DescribesAs y.plan (s.codes.each n below) (kept_of y stands.abstract) (lates n)) (sym (left_kept n below)) (stands.each n below).records.describes
 
   pub left_point : (n : ℕ) → n < thread_count y → durable_point w.log w.words n ≡ (left n).point
   left_point n below =
@@ -50,7 +55,7 @@ pub between_there : (y : System) (s : IsSystem y) (w : World) (stands : Simulate
     ((n : ℕ) → n < thread_count y → durable_point w.log w.words n ≡ 0) → (thread : ℕ) → holds_none stands.abstract.config.kept.holders thread ≡ true
 between_there y s w stands zeros thread =
     let b = stands.abstract in
-    let free = (points_settle w.log y.plan s.codes (kept_of y b) (left y s w stands) w.words (orderly y s b) (left_describes y s w stands)
+    let free = (points_settle w.log y.plan s.codes (kept_of y b) (lates y s w stands) (left y s w stands) w.words (orderly y s b) (left_describes y s w stands)
     (left_point y s w stands)).0 zeros in
     subst (λ (hs : List (Option ℕ)). holds_none hs thread ≡ true) (kept_matches y s b).holders (free_holds_none thread 0 (kept_of y b).holders free)
 

@@ -2,6 +2,8 @@
 use Rattle.crash_simulation.proofs.Common.{ℤ, Computes, LogView, stores_local}
 use Rattle.crash_simulation.proofs.LoggedNodeSteps.{mark as logged_mark}
 use Rattle.crash_simulation.proofs.LocalStoreSteps.{at_store}
+use Rattle.crash_simulation.proofs.PastStoreSteps.{mark as past_mark}
+use Rattle.crash_simulation.specs.InstructionSteps.{AtPastNow, again, outside}
 use Rattle.crash_simulation.proofs.Common.{◌≢◌, ℕ, List, suc, LockName, World, Seen, NodeAt, Node, Lock, MarkedEnvironment, Agrees, OnRun, ExitPoint}
 use Rattle.crash_simulation.proofs.Common.{on_machine, run_of, MarksPass, run_at, IsAtSomeMark, Code, Site, IsReadyToStep, calls, OnFragmentNow}
 use Rattle.crash_simulation.proofs.Common.{thread_of, AtCoreNow, System, IsSystem, ThreadGhost, ThreadInv}
@@ -61,6 +63,10 @@ module _ {y : System} {s : IsSystem y} {w : World} {h : ℕ} (site : Site y s w 
       let at = at_store site from local number o in
       record { run = run_of y.plan code.thread code.is.places at.on; agrees = at.on.agrees }
 
+  -- once more
+  stores_again : AtPastNow site → RunsOn y w n
+  stores_again o = let at = (past_mark site o).at in record { run = run_at y.plan code.thread code.is.places at; agrees = at.agrees }
+
   -- a hart that executes instructions is on a run, or at a call
   pub data IsWhere : Type 0 where
     on_run : RunsOn y w n → IsWhere
@@ -69,5 +75,6 @@ module _ {y : System} {s : IsSystem y} {w : World} {h : ℕ} (site : Site y s w 
   pub is_where : MarksPass → IsReadyToStep site → IsWhere
   is_where marks (on_fragment exit steps o) = on_run (fragments steps o)
   is_where marks (calls exit o calling) = at_call exit o calling
-  is_where marks (stores_local from local number o) = on_run (stores from local number o)
+  is_where marks (stores_local (outside from local number o)) = on_run (stores from local number o)
+  is_where marks (stores_local (again o)) = on_run (stores_again o)
   is_where marks (at_core core free) = on_run (cores marks core free)

@@ -1,10 +1,12 @@
 -- After a crash, and where recovery begins with words that describe an origin, the machine simulates an abstract run.
 
+use Rattle.crash_simulation.proofs.Common.{DescribesAs}
+use Rattle.crash_simulation.proofs.Common.{Bool, IsPastAssignment}
 use Rattle.crash_simulation.proofs.Common.{◌≤◌, true≢false, IsFrameFlushed, IsFrameWord, IsSectioned, NodePlace, frame_reached, frame_word, last_position}
 use Rattle.crash_simulation.proofs.Common.{word_at}
 use Rattle.ido_base.proofs.Public.{higher_all}
 use Rattle.crash_simulation.proofs.FrameWords.{anew_settled}
-use Rattle.crash_simulation.proofs.Common.{◌≡◌, ℕ, List, ◌∷◌, sym, ◌∙◌, ap, arith, subst, true, Option, Some, None, refl, suc, ◌<◌, [], ◌++◌, length, zero}
+use Rattle.crash_simulation.proofs.Common.{◌≡◌, ℕ, List, ◌∷◌, sym, ◌∙◌, ap, arith, subst, true, false, Option, Some, None, refl, suc, ◌<◌, [], ◌++◌, length, zero}
 use Rattle.crash_simulation.proofs.Common.{replicate, slice_get, append-nil, map, Contains, option_map, length-replicate, none-some, same_Some, word_count}
 use Rattle.crash_simulation.proofs.Common.{Word, durable_value, word_of, Crash, Log, steps_of, IsWellFormedWorld, Hart, World, happens, after_event}
 use Rattle.crash_simulation.proofs.Common.{after_crash_of, resume_of, Slot, Phase, crashes_simulate, GraphThread, graph_after, AreCuts, at_boundary, NodeAt}
@@ -20,7 +22,7 @@ use Rattle.recovery_semantics.specs.Executions.{begins}
 use Rattle.flow_graph.specs.IdempotentCuts as cutting
 use Rattle.region_attempts.specs.AttemptsInRegion as attempts
 use Rattle.crash_simulation.proofs.StatesMatchSource.{orderly, begins_orderly}
-use Rattle.crash_simulation.proofs.RecordsAfterCrash.{over_is_caught, left, log_of, left_describes}
+use Rattle.crash_simulation.proofs.RecordsAfterCrash.{over_is_caught, lates as left_lates, left, log_of, left_describes}
 use Rattle.crash_simulation.specs.Accesses.{load}
 use Rattle.crash_simulation.proofs.ReadBytes.{none_read}
 use Rattle.crash_simulation.proofs.ThreadViews.{none_clean, none_stored, records_over}
@@ -35,19 +37,19 @@ crashes_leave program w = refl
 -- ---- A machine whose harts begin to gather the locks of records simulates an abstract run at the state that these describe
 
 -- the machine's harts gather the locks of the records, which describe what the abstract run has kept: no more is begun
-pub record BeginsAgain (y : System) (s : IsSystem y) (v : World) (abstract : AbstractRun y) (records : ℕ → Record) : Type 0 where
+pub record BeginsAgain (y : System) (s : IsSystem y) (v : World) (abstract : AbstractRun y) (lates : ℕ → Bool) (records : ℕ → Record) : Type 0 where
   pub machine : IsMachineOf y v
   pub memory : memory_in (places_of y) v.words ≡ abstract.config.memory
   pub none : abstract.config.uncommitted ≡ []
   pub fresh : (n : ℕ) → (attempt_of abstract.config n).done ≡ 0
   pub gathers : AreGathering v records
-  pub describe : AllDescribe y.plan s.codes (kept_of y abstract) records
+  pub describe : AllDescribe y.plan s.codes (kept_of y abstract) lates records
   -- all that is stored is durable
   pub settled : (word : ℕ) → last_position (word_at v.words word) ≤ (word_at v.words word).durable
 
 -- a thread that has begun nothing since the boundary of its record, where a run begins
-abbrev pub resting_ghost : System → Record → (n : ℕ) → ThreadGhost
-resting_ghost y r n = record {
+abbrev pub resting_ghost : System → (late : Bool) → Record → (n : ℕ) → ThreadGhost
+resting_ghost y late r n = record {
   old = nothing_recorded;
   new = r;
   rest = [];
@@ -55,30 +57,32 @@ resting_ghost y r n = record {
   cleans = [];
   giving = None;
   before_mark = most_ahead y n;
+  late = late;
   last_stores = λ word. None;
   first_accesses = λ byte. None;
 }
 
-pub resting_thread : (y : System) (v : World) (b : AbstractRun y) (code : Code y.plan) (r : Record) (n : ℕ) (graph_thread : GraphThread)
-    (log : LogInv code.thread.number nothing_recorded r v []) → Describes y.plan code (kept_of y b) r → (attempt_of b.config code.thread.number).done ≡ 0 →
+pub resting_thread : (y : System) (v : World) (b : AbstractRun y) (code : Code y.plan) (late : Bool) (r : Record) (n : ℕ) (graph_thread : GraphThread)
+    (log : LogInv code.thread.number nothing_recorded r v []) → DescribesAs y.plan code (kept_of y b) late r → (attempt_of b.config code.thread.number).done ≡ 0 →
     slice_get (now_of y b).graph_threads code.thread.number ≡ Some graph_thread →
-    InPhase y v b code (resting_ghost y r n) log.hart graph_thread log.hart.phase →
-    (IsSectioned (resting_ghost y r n) → (word : ℕ) → IsFrameWord v.log word → IsFrameFlushed y v b code (resting_ghost y r n) log.hart word) →
-    ThreadInv y v b code (resting_ghost y r n)
-resting_thread y v b code r n graph_thread log describes none walks phase frames = record {
+    InPhase y v b code (resting_ghost y late r n) log.hart graph_thread log.hart.phase →
+    (IsSectioned (resting_ghost y late r n) → (word : ℕ) → IsFrameWord v.log word → IsFrameFlushed y v b code (resting_ghost y late r n) log.hart word) →
+    ThreadInv y v b code (resting_ghost y late r n)
+resting_thread y v b code late r n graph_thread log describes none walks phase frames = record {
   log = log;
-  records = records_over y b code (resting_ghost y r n) refl refl
+  records = records_over y b code (resting_ghost y late r n) refl refl
       (ends_committed v.log code.thread.number nothing_recorded r (config_of v log.hart []) log.log refl) describes;
   graph_thread = graph_thread;
   walks = walks;
   phase = phase;
-  stored = none_stored y v b code (resting_ghost y r n) log.hart none none_clean (λ word position is. absurd (none-some position is)) frames;
-  has_read = none_read y b code.thread.number (resting_ghost y r n) none (λ byte is. none-some load is);
+  stored = none_stored y v b code (resting_ghost y late r n) log.hart none none_clean (λ word position is. absurd (none-some position is)) frames;
+  has_read = none_read y b code.thread.number (resting_ghost y late r n) none (λ byte is. none-some load is);
 }
 
-module _ (y : System) (s : IsSystem y) (v : World) (abstract : AbstractRun y) (records : ℕ → Record) (again : BeginsAgain y s v abstract records) where
+module _ (y : System) (s : IsSystem y) (v : World) (abstract : AbstractRun y) (lates : ℕ → Bool) (records : ℕ → Record)
+    (again : BeginsAgain y s v abstract lates records) where
   abbrev pub gathering_ghosts : ℕ → ThreadGhost
-  gathering_ghosts n = resting_ghost y (records n) n
+  gathering_ghosts n = resting_ghost y (lates n) (records n) n
 
   in_phase : (code : Code y.plan) (n : ℕ) (hart : Hart) (graph_thread : GraphThread) (phase : Phase) → Gathers v n (records n) phase →
       Rests y abstract.config code.thread.number (gathering_ghosts n) → InPhase y v abstract code (gathering_ghosts n) hart graph_thread phase
@@ -102,7 +106,7 @@ module _ (y : System) (s : IsSystem y) (v : World) (abstract : AbstractRun y) (r
         committed = refl;
         whole = ap (most_ahead y) (sym same);
       } in
-      resting_thread y v abstract code (records n) n found.0 log (again.describe n below) none
+      resting_thread y v abstract code (lates n) (records n) n found.0 log (again.describe n below) none
       (ap (λ (us : List ℕ). slice_get (graph_after (lowered (flat_of y)) (kept_of y abstract) us).graph_threads code.thread.number) again.none ∙ found.1)
       (in_phase code n log.hart found.0 log.hart.phase (again.gathers.each n log.hart (ap (slice_get v.harts) (sym same) ∙ log.here)) rests)
       (λ sectioned word framed. record {
@@ -172,13 +176,13 @@ module _ (y : System) (s : IsSystem y) (w : World) (stands : Simulates y s w) wh
       (λ n. (stands.ghosts n).rest) (s.count ∙ sym stands.machine.count)
       (λ n below. log_of y s w stands n (omega (arith, below, stands.machine.count))) (λ n below. refl)
 
-  pub describe : AllDescribe y.plan s.codes (kept_of y crashed_run) (left y s w stands)
+  pub describe : AllDescribe y.plan s.codes (kept_of y crashed_run) (left_lates y s w stands) (left y s w stands)
   describe n below =
-      subst (λ (us : List ℕ). Describes y.plan (s.codes.each n below) (flow_kept (flat_of y) b.origin us) (left y s w stands n)) (sym (append-nil b.schedule))
+      subst (λ (us : List ℕ). DescribesAs y.plan (s.codes.each n below) (flow_kept (flat_of y) b.origin us) (left_lates y s w stands n) (left y s w stands n)) (sym (append-nil b.schedule))
       (left_describes y s w stands n below)
 
   abbrev pub stands_after : Simulates y s after
-  stands_after = gathering_simulates y s after crashed_run (left y s w stands) (record {
+  stands_after = gathering_simulates y s after crashed_run (left_lates y s w stands) (left y s w stands) (record {
     machine = machine;
     memory = crashes_hold (places_of y) y.runs.program w ∙ ap crashed stands.memory;
     none = refl;
@@ -276,19 +280,37 @@ module _ (y : System) (s : IsSystem y) (o : Origin (flat_of y)) (words : List �
         goes = subst (λ (a : Action). Contains (successors a) node) (sym gives) (contains_first node []);
       })
 
-  pub boundary_by : (code : Code y.plan) (mutex node : ℕ) (r : Record) → slice_get o.flow.holders mutex ≡ Some (Some code.thread.number) →
+  boundary_on_time : (code : Code y.plan) (mutex node : ℕ) (r : Record) → slice_get o.flow.holders mutex ≡ Some (Some code.thread.number) →
       node_of o.flow code.thread.number ≡ Some node → Describes y.plan code o.flow r → Resumes (lowered (flat_of y)) y.plan.boundaries node
-  boundary_by code mutex node r held at (between none point) = absurd (true≢false (sym none ∙ holds_some code.thread.number o.flow.holders mutex held))
-  boundary_by code mutex node r held at (inside some i) =
+  boundary_on_time code mutex node r held at (between none point) =
+      absurd (true≢false (sym none ∙ holds_some code.thread.number o.flow.holders mutex held))
+  boundary_on_time code mutex node r held at (inside some i) =
       let same : i.graph_thread.at ≡ node = same_Some i.graph_thread.at node (ap (option_map (λ (g : GraphThread). g.at)) (sym i.there) ∙ at) in
       subst (λ (k : ℕ). Resumes (lowered (flat_of y)) y.plan.boundaries k) same (resumes_at code i.graph_thread.at i.place (resume_of r.point) i.resumes)
+
+  -- one that is late stands at the node after the assignment
+  boundary_late : (code : Code y.plan) (node : ℕ) (r : Record) → node_of o.flow code.thread.number ≡ Some node → IsPastAssignment y.plan code o.flow r →
+      Resumes (lowered (flat_of y)) y.plan.boundaries node
+  boundary_late code node r at past =
+      let a = past.logged.assigns in
+      let same : a.next ≡ node = past.goes ∙ same_Some past.graph_thread.at node (ap (option_map (λ (g : GraphThread). g.at)) (sym past.there) ∙ at) in
+      let there : NodeAt (lowered (flat_of y)) past.node a.is = subst (λ (g : Graph). NodeAt g past.node a.is) s.plan.lowered a.at in
+      subst (λ (k : ℕ). Resumes (lowered (flat_of y)) y.plan.boundaries k) same
+      (attempts.past_assignment past.node past.chosen.stands
+      (record { is = a.is; at = there; place = a.place; local = past.logged.local; kind = a.kind; value = a.assigned; next = a.next; action = a.action })
+      (record { is = a.is; at = there; goes = subst (λ (z : Action). Contains (successors z) a.next) (sym a.action) (contains_first a.next []) }))
+
+  pub boundary_by : (code : Code y.plan) (mutex node : ℕ) (late : Bool) (r : Record) → slice_get o.flow.holders mutex ≡ Some (Some code.thread.number) →
+      node_of o.flow code.thread.number ≡ Some node → DescribesAs y.plan code o.flow late r → Resumes (lowered (flat_of y)) y.plan.boundaries node
+  boundary_by code mutex node false r held at describes = boundary_on_time code mutex node r held at describes
+  boundary_by code mutex node true r held at past = boundary_late code node r at past
 
   pub at_boundaries : BeginsAtBoundaries (flat_of y) y.plan.boundaries o
   at_boundaries t mutex node held at =
       let there : slice_get o.flow.holders mutex ≡ Some (Some t) = ap (λ (hs : List (Option ℕ)). slice_get hs mutex) o.matches.holders ∙ held in
       let below : t < thread_count y = (begins_orderly y.plan s.plan o).holders mutex t there in
       let number : (s.codes.each t below).thread.number ≡ t = s.codes.number t below in
-      boundary_by (s.codes.each t below) mutex node (is.recovers.records t)
+      boundary_by (s.codes.each t below) mutex node (is.recovers.lates t) (is.recovers.records t)
       (subst (λ (k : ℕ). slice_get o.flow.holders mutex ≡ Some (Some k)) (sym number) there)
       (subst (λ (k : ℕ). node_of o.flow k ≡ Some node) (sym number) at) (is.recovers.describe t below)
 
@@ -304,7 +326,7 @@ module _ (y : System) (s : IsSystem y) (o : Origin (flat_of y)) (words : List �
   }
 
   abbrev pub recovered_stands : Simulates y s v
-  recovered_stands = gathering_simulates y s v recovered_run is.recovers.records (record {
+  recovered_stands = gathering_simulates y s v recovered_run is.recovers.lates is.recovers.records (record {
     machine = record {
       count = stand.1 ∙ s.count;
       log = recovered_log;

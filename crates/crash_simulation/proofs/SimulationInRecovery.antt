@@ -1,4 +1,8 @@
 -- Steps of harts that gather their locks, of those that recovery resumes, and of those that have stopped.
+use Rattle.recovered_threads.proofs.Public.{late_harts_go_on}
+use Rattle.crash_simulation.specs.ThreadGhosts.{at_past}
+use Rattle.recovered_threads.specs.RecoveryStates.{ResumesLate}
+use Rattle.crash_simulation.proofs.Common.{Bool, DescribesAs, IsReady, Run, Seen, cases_Bool, false}
 use Rattle.crash_simulation.proofs.Common.{true, AssignsAlike, HasView, IsPlaced, IsSameTo, Log, LogView, NodePlace, Word, frame_at, frame_in, home_of}
 use Rattle.crash_simulation.proofs.Common.{live_value, run_keeps, solo, the_core, the_entry}
 use Rattle.expr_code.specs.declared.home.Home.TheVariants.{InFrame}
@@ -119,13 +123,16 @@ module _ (y : System) (s : IsSystem y) (w : World) (h : ℕ) (stands : Simulates
         rest_in n (s.codes.each n below) t.log.hart t.graph_thread t.log.hart.phase
         (gathers.each n t.log.hart (ap (slice_get w.harts) (sym number) ∙ t.log.here)) t.phase
 
-    pub all_describe : AllDescribe y.plan s.codes (kept_of y b) records
+    abbrev lates : ℕ → Bool
+    lates n = (stands.ghosts n).late
+
+    pub all_describe : AllDescribe y.plan s.codes (kept_of y b) lates records
     all_describe n below = describes_over y b (s.codes.each n below) (stands.ghosts n) (stands.each n below).records (all_rest n below).committed
 
     pub apart : AreRecordsApart (length w.harts) records
     apart =
         subst (λ (n : ℕ). AreRecordsApart n records) (sym stands.machine.count)
-        (records_are_apart y.plan s.codes (kept_of y b) records s.plan (orderly y s b) all_describe)
+        (records_are_apart y.plan s.codes (kept_of y b) lates records s.plan (orderly y s b) all_describe)
 
     -- ---- Take
 
@@ -156,7 +163,7 @@ module _ (y : System) (s : IsSystem y) (w : World) (h : ℕ) (stands : Simulates
     held_as_kept nobody =
         let kept = orderly y s b in
         let locks : w.holders ≡ (kept_of y b).holders =
-        gathered_are_kept y.plan s.codes (kept_of y b) w records s.plan kept all_describe gathers nobody stands.machine.count
+        gathered_are_kept y.plan s.codes (kept_of y b) w lates records s.plan kept all_describe gathers nobody stands.machine.count
         (stands.machine.mutexes ∙ sym kept.locks) in
         let same : w.holders ≡ (now_of y b).holders = locks ∙ ap (λ (z : FlowState). z.holders) (sym now_is) in
         record {
@@ -239,29 +246,15 @@ module _ (y : System) (s : IsSystem y) (w : World) (h : ℕ) (stands : Simulates
     rests : Rests y b.config n ghost
     rests = phase_of y s w h stands Resume i below
 
-    describes : Describes y.plan code (kept_of y b) ghost.new
+    describes : DescribesAs y.plan code (kept_of y b) ghost.late ghost.new
     describes = describes_over y b code ghost (stands.each h below).records rests.committed
 
-    go : ResumesThread y.runs.program code (kept_of y b) w i.hart ghost.new
-    go =
-        let ready : IsRecoveredHart w h ghost.new = subst (HasGathered w h ghost.new) i.phase_is (ag.each h i.hart i.here) in
-        harts_go_on y.runs.program y.plan code (kept_of y b) w ghost.new stands.machine.log describes
-        (subst (λ (k : ℕ). IsRecoveredHart w k ghost.new) (sym (same_number site)) ready)
-        (record { hart = i.hart; here = ap (slice_get w.harts) (same_number site) ∙ i.here; phase_is = i.phase_is })
+    ready : IsRecoveredHart w n ghost.new
+    ready = subst (λ (k : ℕ). IsRecoveredHart w k ghost.new) (sym (same_number site))
+        (subst (HasGathered w h ghost.new) i.phase_is (ag.each h i.hart i.here))
 
-    open go.told use {graph_thread, own as of_thread}
-
-    there : slice_get resumed.harts h ≡ Some go.after
-    there = (moved_is y s w h stands w i.hart go.after i.here
-        (subst (λ (k : ℕ). happens y.runs.program w (Step k) ≡ moved w k go.after) (same_number site) go.does) refl refl go.queue).here
-
-    -- the resumed thread's graph thread is that of the kept state
-    same_graph_thread : graph_thread ≡ (stands.each h below).graph_thread
-    same_graph_thread =
-        let kept : slice_get (now_of y b).graph_threads n ≡ slice_get (kept_of y b).graph_threads n =
-        alone y s b n ∙ ap (λ (k : ℕ). slice_get (flow_solo (flat_of y) (kept_of y b) n k).graph_threads n) rests.begun in
-        same_there (slice_get (kept_of y b).graph_threads n) graph_thread (stands.each h below).graph_thread go.told.there
-        (sym kept ∙ (stands.each h below).walks)
+    abbrev here_phase : IsInPhase w n Resume
+    here_phase = record { hart = i.hart; here = ap (slice_get w.harts) (same_number site) ∙ i.here; phase_is = i.phase_is }
 
     machine : IsMachineOf y resumed
     machine = machine_stays y s w (Step h) stands.machine
@@ -270,153 +263,251 @@ module _ (y : System) (s : IsSystem y) (w : World) (h : ℕ) (stands : Simulates
     abbrev seen_log : LogView
     seen_log = record { side = side_of ghost.new; frame = live_at w.words }
 
-    same_words : resumed.words ≡ w.words
-    same_words = (moved_is y s w h stands w i.hart go.after i.here
-        (subst (λ (k : ℕ). happens y.runs.program w (Step k) ≡ moved w k go.after) (same_number site) go.does) refl refl go.queue).words
-
-    has_view : HasView resumed n seen_log
-    has_view word framed = ap (λ (ws : List Word). live_value (frame_in resumed.log ws n word)) same_words
-
     goes : IsInAttempt y b.config n ghost
     goes = record { going = rests.begun ∙ sym rests.done; rest = rests.rest; giving = rests.giving; committed = rests.committed }
-
-    short : length go.after.queue ≤ 16
-    short = machine.short h go.after there
 
     placed_now : IsPlaced y.plan code.thread places w.log (length w.harts)
     placed_now = placed_here site
 
-    abbrev IsHere : ℕ → Type 0
-    IsHere address = IsRunningAt resumed n (config go.after.registers address)
+    -- the resumed thread's graph thread is that of the kept state
+    graph_thread_there : (graph_thread : GraphThread) → slice_get (kept_of y b).graph_threads n ≡ Some graph_thread →
+        graph_thread ≡ (stands.each h below).graph_thread
+    graph_thread_there graph_thread there =
+        let kept : slice_get (now_of y b).graph_threads n ≡ slice_get (kept_of y b).graph_threads n =
+        alone y s b n ∙ ap (λ (k : ℕ). slice_get (flow_solo (flat_of y) (kept_of y b) n k).graph_threads n) rests.begun in
+        same_there (slice_get (kept_of y b).graph_threads n) graph_thread (stands.each h below).graph_thread there (sym kept ∙ (stands.each h below).walks)
 
-    -- a word of the frame on which it counts has its number
-    counted_on : (place : NodePlace) → place ≡ go.told.place → (local address : ℕ) → CountsOn y.plan code.thread graph_thread.at place local →
-        home_of code.thread.locals local ≡ InFrame address → live_at w.words address ≡ go.told.view.frame address
-    counted_on place same local address counts home =
-        let own = placed_now.words local address home in
-        let d = go.frame own.word (record {
-          local = local;
-          counted = subst (λ (x : NodePlace). CountsOn y.plan code.thread graph_thread.at x local) same counts;
-          home = home ∙ ap (λ (k : ℕ). InFrame k) (own.is ∙ ap (λ (l : Log). frame_at l n own.word) (sym stands.machine.log));
-        }) in
-        ap (live_at w.words) own.is ∙ (d.live
-        ∙ ap go.told.view.frame (ap (λ (l : Log). frame_at l n own.word) stands.machine.log ∙ sym own.is))
+    -- it is in phase once it runs there
+    own_by_run : (next : Hart) → slice_get resumed.harts h ≡ Some next → next.phase ≡ Run →
+        IsRunningThread y resumed b code ghost next (stands.each h below).graph_thread →
+        InPhase y resumed b code ghost new (stands.each h below).graph_thread new.phase
+    own_by_run next there runs is_running =
+        let here : slice_get resumed.harts h ≡ Some new = (moved_is y s w h stands w i.hart new i.here does refl refl queue).here in
+        let is : next ≡ new = same_there (slice_get resumed.harts h) next new there here in
+        subst (λ (x : Hart). InPhase y resumed b code ghost x (stands.each h below).graph_thread x.phase) is
+        (subst (InPhase y resumed b code ghost next (stands.each h below).graph_thread) (sym runs) is_running)
 
-    abbrev may_there : NodePlace → Type 0
-    may_there place = MayGoOn y.plan code.thread graph_thread.at place (seen_by (kept_of y b) graph_thread) seen_log go.told.owed go.after.registers
+    -- ---- One that is on time
 
-    may_now : (place : NodePlace) → place ≡ go.told.place →
-        MayGoOn y.plan code.thread graph_thread.at place (seen_by (kept_of y b) graph_thread) (view_resumed ghost.new go.told.view) go.told.owed
-        go.after.registers →
-        may_there place
-    may_now the_entry same may =
-        enters_again y.plan code.thread graph_thread.at (seen_by (kept_of y b) graph_thread) (view_resumed ghost.new go.told.view) seen_log go.after.registers
-        go.after.registers (places.live graph_thread.at) (code.is.live graph_thread.at of_thread) may may.at_side
-        (λ local address live home. counted_on the_entry same local address live home) (λ register has. refl)
-    may_now the_core same may = (
-      ready_again y.plan code.thread graph_thread.at (seen_by (kept_of y b) graph_thread) (view_resumed ghost.new go.told.view) seen_log go.told.owed
-          go.after.registers go.after.registers (places.kept graph_thread.at) (code.is.kept graph_thread.at of_thread) may.0
-          (ready_side y code graph_thread.at (seen_by (kept_of y b) graph_thread) (view_resumed ghost.new go.told.view) go.told.owed go.after.registers may.0)
-          (λ local address counts home. counted_on the_core same local address counts home) (λ register has. refl),
-      may.1,
-    )
+    module _ (on_time : ghost.late ≡ false) where
+      go : ResumesThread y.runs.program code (kept_of y b) w i.hart ghost.new
+      go = harts_go_on y.runs.program y.plan code (kept_of y b) w ghost.new stands.machine.log
+          (subst (λ (late : Bool). DescribesAs y.plan code (kept_of y b) late ghost.new) on_time describes) ready here_phase
 
-    kept_alike : AssignsAlike y.plan code.thread (kept_of y b) (now_of y b)
-    kept_alike =
-        let r = (resumed_source y s b).resumed.invariant in
-        let source = as_source y s b in
-        assigns_alike y.plan s.plan code.thread (now_of y b) (kept_of y b) (now b.config) b.config.kept source.now_matches source.kept_matches (now_good y s b)
-        (run_keeps (flat_of y) b.config.kept b.config.uncommitted r.keeps)
-        (subst (λ (k : ℕ). IsSameTo (flat_of y) (now b.config) (solo b.config.kept n k) n) rests.begun
-        (solo_law (flat_of y) b.config.kept b.config.uncommitted n r.keeps r.runs r.hands).same)
-        (alone y s b n ∙ ap (λ (k : ℕ). slice_get (flow_solo (flat_of y) (kept_of y b) n k).graph_threads n) rests.begun)
+      open go.told use {graph_thread, own as of_thread}
 
-    -- of a write that comes after a chosen boundary its record is told
-    chosen_told : IsChosen y.plan.graph y.plan.boundaries graph_thread.at → ComesNext y.plan graph_thread.at the_core ghost.new.written →
-        is_some ghost.new.written ≡ true
-    chosen_told chosen next =
-        let found = some_node (flat_of y) s.plan.formed (kept_of y b) b.config.kept n (as_source y s b).kept_matches graph_thread go.told.there in
-        let at : NodeAt y.plan.graph graph_thread.at found.0 = subst (λ (g : Graph). NodeAt g graph_thread.at found.0) (sym s.plan.lowered) found.1 in
-        ap is_some (next found.0 at) ∙ write_comes (chosen_writes y s graph_thread.at found.0 at chosen)
+      there : slice_get resumed.harts h ≡ Some go.after
+      there = (moved_is y s w h stands w i.hart go.after i.here
+          (subst (λ (k : ℕ). happens y.runs.program w (Step k) ≡ moved w k go.after) (same_number site) go.does) refl refl go.queue).here
 
-    runs_at_core : IsChosen y.plan.graph y.plan.boundaries graph_thread.at → ComesNext y.plan graph_thread.at the_core ghost.new.written →
-        may_there the_core → AreCounted y.plan code.thread graph_thread.at the_core ghost.new.framed → IsHere (places.core graph_thread.at) →
-        IsRunningThread y resumed b code ghost go.after graph_thread
-    runs_at_core chosen next may counted at = at_core (record {
-      view = seen_log;
-      at_side = λ some. refl;
-      frame = has_view;
-      owed = go.told.owed;
-      registers = go.after.registers;
-      core =
-          cores_see_all y.plan code.thread places resumed n graph_thread.at (seen_by (kept_of y b) graph_thread) seen_log go.told.owed go.after.registers
-          (now_of y b).variables (record { own = of_thread; at = at; ready = may.0 });
-      owes = owed_on y code ghost ghost (kept_of y b) (now_of y b) graph_thread go.told.owed go.told.there kept_alike refl
-          (record { number = may.1; beside = λ logged. counted });
-      goes = record { goes = goes; cleans = rests.cleans; execution = go.told.goes_on };
-      fresh = λ is_chosen. rests.done;
-      told = λ is_chosen. chosen_told chosen next;
-      untold = λ plain. absurd (plain chosen);
-      soon =
-          let all = entry_soon y s h below graph_thread.at (length go.after.queue) of_thread short in
-          whole_soon y n ghost.before_mark _ rests.whole (omega (arith, all, core_less y.plan places graph_thread.at));
-    })
+      same_words : resumed.words ≡ w.words
+      same_words = (moved_is y s w h stands w i.hart go.after i.here
+          (subst (λ (k : ℕ). happens y.runs.program w (Step k) ≡ moved w k go.after) (same_number site) go.does) refl refl go.queue).words
 
-    -- resumed a lock or an unlock, whose code leads to the node
-    runs_after : ghost.new.written ≡ None → may_there the_entry → (from : ℕ) (is : Node) → IsNodeOf code.thread from → NodeAt y.plan.graph from is →
-        Contains (successors is.action) graph_thread.at → is.action ≢ End → GoesOnFrom from graph_thread.at y.plan code.thread →
-        IsHere (places.after from) → IsRunningThread y resumed b code ghost go.after graph_thread
-    runs_after untold enters from is own found follows other leads at =
-        let environment = bare y s resumed h below in
-        let seen = seen_by (kept_of y b) graph_thread in
-        let fragment = leads y.runs.program code.program code.is resumed n environment seen seen_log go.after.registers
-        (placed y s resumed h below machine.log machine.count) (bare_meets y s resumed h below) (bare_agrees y s resumed h below) at enters in
-        let none : ghost.cleans ++ ghost.rest ≡ [] = ap₂ ◌++◌ rests.cleans rests.rest in
-        on_fragment Arrives fragment.steps (record {
-          environment = environment;
-          answers = bare_answers y s resumed h below (now b.config);
-          loaded = bare_loaded y s resumed h below b ghost;
-          view = seen_log;
-          at_side = λ some. refl;
-          frame = has_view;
-          fragment = subst (IsOnFragment y.plan code.thread places (on_machine y.runs.program resumed n environment) _ fragment.steps) (sym none)
-              (fragments_see_all y.plan code.thread places y.runs.program resumed n environment _ fragment.steps [] (now_of y b).variables fragment.on);
-          fits = (goes, go.told.goes_on, λ none_begun. ap is_some untold);
-          owes = tt;
-          soon =
-              let fit = fits_by y s h below from is own found graph_thread.at of_thread follows other in
-              let no_cleans : cleans_in (seen_effects (ghost.cleans ++ ghost.rest)) ≡ 0 = ap (λ (es : List Effect). cleans_in (seen_effects es)) none in
-              whole_soon y n ghost.before_mark _ rests.whole (omega (arith, fragment.short, short, most_is y s h below, no_cleans, fit));
-        })
+      has_view : HasView resumed n seen_log
+      has_view word framed = ap (λ (ws : List Word). live_value (frame_in resumed.log ws n word)) same_words
 
-    runs_by : (place : NodePlace) (address : ℕ) → ResumesAt y.plan code graph_thread.at place address →
-        ComesNext y.plan graph_thread.at place ghost.new.written → may_there place →
-        AreCounted y.plan code.thread graph_thread.at place ghost.new.framed → IsHere address → IsRunningThread y resumed b code ghost go.after graph_thread
-    runs_by _ _ (at_chosen chosen) next may counted at = runs_at_core chosen next may counted at
-    runs_by _ _ (past_lock from lock is own found locks) next may counted at =
-        runs_after next may from is own found (subst (λ (z : Action). Contains (successors z) graph_thread.at) (sym locks) (0, omega arith, refl)) (λ ends. cc)
-        (locks_go_on y.plan code.thread from graph_thread.locals (lock_number graph_thread.locals lock) graph_thread.at
-        (record { own = own; is = is; at = found; lock = lock; locks = locks; number = refl })) at
-    runs_by _ _ (past_unlock from lock is own found unlocks holds) next may counted at =
-        runs_after next may from is own found (subst (λ (z : Action). Contains (successors z) graph_thread.at) (sym unlocks) (0, omega arith, refl))
-        (λ ends. cc)
-        (unlocks_go_on y.plan code.thread from graph_thread.locals (lock_number graph_thread.locals lock) graph_thread.at
-        (record { own = own; is = is; at = found; lock = lock; unlocks = unlocks; number = refl })) at
+      short : length go.after.queue ≤ 16
+      short = machine.short h go.after there
+
+      abbrev IsHere : ℕ → Type 0
+      IsHere address = IsRunningAt resumed n (config go.after.registers address)
+
+      -- a word of the frame on which it counts has its number
+      counted_on : (place : NodePlace) → place ≡ go.told.place → (local address : ℕ) → CountsOn y.plan code.thread graph_thread.at place local →
+          home_of code.thread.locals local ≡ InFrame address → live_at w.words address ≡ go.told.view.frame address
+      counted_on place same local address counts home =
+          let own = placed_now.words local address home in
+          let d = go.frame own.word (record {
+            local = local;
+            counted = subst (λ (x : NodePlace). CountsOn y.plan code.thread graph_thread.at x local) same counts;
+            home = home ∙ ap (λ (k : ℕ). InFrame k) (own.is ∙ ap (λ (l : Log). frame_at l n own.word) (sym stands.machine.log));
+          }) in
+          ap (live_at w.words) own.is ∙ (d.live
+          ∙ ap go.told.view.frame (ap (λ (l : Log). frame_at l n own.word) stands.machine.log ∙ sym own.is))
+
+      abbrev may_there : NodePlace → Type 0
+      may_there place = MayGoOn y.plan code.thread graph_thread.at place (seen_by (kept_of y b) graph_thread) seen_log go.told.owed go.after.registers
+
+      may_now : (place : NodePlace) → place ≡ go.told.place →
+          MayGoOn y.plan code.thread graph_thread.at place (seen_by (kept_of y b) graph_thread) (view_resumed ghost.new go.told.view) go.told.owed
+          go.after.registers →
+          may_there place
+      may_now the_entry same may =
+          enters_again y.plan code.thread graph_thread.at (seen_by (kept_of y b) graph_thread) (view_resumed ghost.new go.told.view) seen_log go.after.registers
+          go.after.registers (places.live graph_thread.at) (code.is.live graph_thread.at of_thread) may may.at_side
+          (λ local address live home. counted_on the_entry same local address live home) (λ register has. refl)
+      may_now the_core same may = (
+        ready_again y.plan code.thread graph_thread.at (seen_by (kept_of y b) graph_thread) (view_resumed ghost.new go.told.view) seen_log go.told.owed
+            go.after.registers go.after.registers (places.kept graph_thread.at) (code.is.kept graph_thread.at of_thread) may.0
+            (ready_side y code graph_thread.at (seen_by (kept_of y b) graph_thread) (view_resumed ghost.new go.told.view) go.told.owed go.after.registers may.0)
+            (λ local address counts home. counted_on the_core same local address counts home) (λ register has. refl),
+        may.1,
+      )
+
+      kept_alike : AssignsAlike y.plan code.thread (kept_of y b) (now_of y b)
+      kept_alike =
+          let r = (resumed_source y s b).resumed.invariant in
+          let source = as_source y s b in
+          assigns_alike y.plan s.plan code.thread (now_of y b) (kept_of y b) (now b.config) b.config.kept source.now_matches source.kept_matches (now_good y s b)
+          (run_keeps (flat_of y) b.config.kept b.config.uncommitted r.keeps)
+          (subst (λ (k : ℕ). IsSameTo (flat_of y) (now b.config) (solo b.config.kept n k) n) rests.begun
+          (solo_law (flat_of y) b.config.kept b.config.uncommitted n r.keeps r.runs r.hands).same)
+          (alone y s b n ∙ ap (λ (k : ℕ). slice_get (flow_solo (flat_of y) (kept_of y b) n k).graph_threads n) rests.begun)
+
+      -- of a write that comes after a chosen boundary its record is told
+      chosen_told : IsChosen y.plan.graph y.plan.boundaries graph_thread.at → ComesNext y.plan graph_thread.at the_core ghost.new.written →
+          is_some ghost.new.written ≡ true
+      chosen_told chosen next =
+          let found = some_node (flat_of y) s.plan.formed (kept_of y b) b.config.kept n (as_source y s b).kept_matches graph_thread go.told.there in
+          let at : NodeAt y.plan.graph graph_thread.at found.0 = subst (λ (g : Graph). NodeAt g graph_thread.at found.0) (sym s.plan.lowered) found.1 in
+          ap is_some (next found.0 at) ∙ write_comes (chosen_writes y s graph_thread.at found.0 at chosen)
+
+      runs_at_core : IsChosen y.plan.graph y.plan.boundaries graph_thread.at → ComesNext y.plan graph_thread.at the_core ghost.new.written →
+          may_there the_core → AreCounted y.plan code.thread graph_thread.at the_core ghost.new.framed → IsHere (places.core graph_thread.at) →
+          IsRunningThread y resumed b code ghost go.after graph_thread
+      runs_at_core chosen next may counted at = at_core (record {
+        view = seen_log;
+        at_side = λ some. refl;
+        frame = has_view;
+        owed = go.told.owed;
+        registers = go.after.registers;
+        core =
+            cores_see_all y.plan code.thread places resumed n graph_thread.at (seen_by (kept_of y b) graph_thread) seen_log go.told.owed go.after.registers
+            (now_of y b).variables (record { own = of_thread; at = at; ready = may.0 });
+        owes = owed_on y code ghost ghost (kept_of y b) (now_of y b) graph_thread go.told.owed go.told.there kept_alike refl
+            (record { number = may.1; beside = λ logged. counted });
+        goes = record { goes = goes; cleans = rests.cleans; execution = go.told.goes_on };
+        fresh = λ is_chosen. rests.done;
+        told = λ is_chosen. chosen_told chosen next;
+        untold = λ plain. absurd (plain chosen);
+        soon =
+            let all = entry_soon y s h below graph_thread.at (length go.after.queue) of_thread short in
+            whole_soon y n ghost.before_mark _ rests.whole (omega (arith, all, core_less y.plan places graph_thread.at));
+      })
+
+      -- resumed a lock or an unlock, whose code leads to the node
+      runs_after : ghost.new.written ≡ None → may_there the_entry → (from : ℕ) (is : Node) → IsNodeOf code.thread from → NodeAt y.plan.graph from is →
+          Contains (successors is.action) graph_thread.at → is.action ≢ End → GoesOnFrom from graph_thread.at y.plan code.thread →
+          IsHere (places.after from) → IsRunningThread y resumed b code ghost go.after graph_thread
+      runs_after untold enters from is own found follows other leads at =
+          let environment = bare y s resumed h below in
+          let seen = seen_by (kept_of y b) graph_thread in
+          let fragment = leads y.runs.program code.program code.is resumed n environment seen seen_log go.after.registers
+          (placed y s resumed h below machine.log machine.count) (bare_meets y s resumed h below) (bare_agrees y s resumed h below) at enters in
+          let none : ghost.cleans ++ ghost.rest ≡ [] = ap₂ ◌++◌ rests.cleans rests.rest in
+          on_fragment Arrives fragment.steps (record {
+            environment = environment;
+            answers = bare_answers y s resumed h below (now b.config);
+            loaded = bare_loaded y s resumed h below b ghost;
+            view = seen_log;
+            at_side = λ some. refl;
+            frame = has_view;
+            fragment = subst (IsOnFragment y.plan code.thread places (on_machine y.runs.program resumed n environment) _ fragment.steps) (sym none)
+                (fragments_see_all y.plan code.thread places y.runs.program resumed n environment _ fragment.steps [] (now_of y b).variables fragment.on);
+            fits = (goes, go.told.goes_on, λ is none_begun. ap is_some untold);
+            owes = tt;
+            soon =
+                let fit = fits_by y s h below from is own found graph_thread.at of_thread follows other in
+                let no_cleans : cleans_in (seen_effects (ghost.cleans ++ ghost.rest)) ≡ 0 = ap (λ (es : List Effect). cleans_in (seen_effects es)) none in
+                whole_soon y n ghost.before_mark _ rests.whole (omega (arith, fragment.short, short, most_is y s h below, no_cleans, fit));
+          })
+
+      runs_by : (place : NodePlace) (address : ℕ) → ResumesAt y.plan code graph_thread.at place address →
+          ComesNext y.plan graph_thread.at place ghost.new.written → may_there place →
+          AreCounted y.plan code.thread graph_thread.at place ghost.new.framed → IsHere address → IsRunningThread y resumed b code ghost go.after graph_thread
+      runs_by _ _ (at_chosen chosen) next may counted at = runs_at_core chosen next may counted at
+      runs_by _ _ (past_lock from lock is own found locks) next may counted at =
+          runs_after next may from is own found (subst (λ (z : Action). Contains (successors z) graph_thread.at) (sym locks) (0, omega arith, refl)) (λ ends. cc)
+          (locks_go_on y.plan code.thread from graph_thread.locals (lock_number graph_thread.locals lock) graph_thread.at
+          (record { own = own; is = is; at = found; lock = lock; locks = locks; number = refl })) at
+      runs_by _ _ (past_unlock from lock is own found unlocks holds) next may counted at =
+          runs_after next may from is own found (subst (λ (z : Action). Contains (successors z) graph_thread.at) (sym unlocks) (0, omega arith, refl))
+          (λ ends. cc)
+          (unlocks_go_on y.plan code.thread from graph_thread.locals (lock_number graph_thread.locals lock) graph_thread.at
+          (record { own = own; is = is; at = found; lock = lock; unlocks = unlocks; number = refl })) at
+
+      own_on_time : InPhase y resumed b code ghost new (stands.each h below).graph_thread new.phase
+      own_on_time = own_by_run go.after there go.runs (subst (IsRunningThread y resumed b code ghost go.after) (graph_thread_there graph_thread go.told.there)
+          (runs_by go.told.place (resume_of ghost.new.point) go.told.resumes go.told.written (may_now go.told.place refl go.may) go.told.framed (record {
+            hart = go.after;
+            here = ap (slice_get resumed.harts) (same_number site) ∙ there;
+            runs = go.runs;
+            is = ap (config go.after.registers) go.pc;
+          })))
+
+    -- ---- One that is late: at the core of the assignment
+
+    module _ (late : ghost.late ≡ true) where
+      go_late : ResumesLate y.runs.program code (kept_of y b) w i.hart ghost.new
+      go_late = late_harts_go_on y.runs.program y.plan code (kept_of y b) w ghost.new stands.machine.log
+          (subst (λ (l : Bool). DescribesAs y.plan code (kept_of y b) l ghost.new) late describes) ready here_phase
+
+      open go_late use {told as past, after as next}
+
+      quiet : IsQuiet w resumed h i.hart next
+      quiet = moved_is y s w h stands w i.hart next i.here
+          (subst (λ (k : ℕ). happens y.runs.program w (Step k) ≡ moved w k next) (same_number site) go_late.does) refl refl go_late.queue
+
+      abbrev seen_past : Seen
+      seen_past = seen_by (kept_of y b) past.graph_thread
+
+      -- a word of the frame on which it counts has its number
+      counted_past : (local address : ℕ) → CountsOn y.plan code.thread past.node the_core local → home_of code.thread.locals local ≡ InFrame address →
+          live_at w.words address ≡ past.view.frame address
+      counted_past local address counts home =
+          let own = placed_now.words local address home in
+          let d = go_late.frame own.word (record {
+            local = local;
+            counted = counts;
+            home = home ∙ ap (λ (k : ℕ). InFrame k) (own.is ∙ ap (λ (l : Log). frame_at l n own.word) (sym stands.machine.log));
+          }) in
+          ap (live_at w.words) own.is ∙ (d.live
+          ∙ ap past.view.frame (ap (λ (l : Log). frame_at l n own.word) stands.machine.log ∙ sym own.is))
+
+      ready_past : IsReady y.plan code.thread past.node seen_past seen_log past.owed next.registers
+      ready_past =
+          ready_again y.plan code.thread past.node seen_past (view_resumed ghost.new past.view) seen_log past.owed next.registers next.registers
+          (places.kept past.node) (code.is.kept past.node past.own_node) go_late.ready
+          (ready_side y code past.node seen_past (view_resumed ghost.new past.view) past.owed next.registers go_late.ready)
+          (λ local address counts home. counted_past local address counts home) (λ register has. refl)
+
+      there_past : IsRunningAt resumed n (config next.registers (places.core past.node))
+      there_past = record {
+        hart = next;
+        here = ap (slice_get resumed.harts) (same_number site) ∙ quiet.here;
+        runs = go_late.runs;
+        is = ap (config next.registers) (go_late.pc ∙ past.resumes);
+      }
+
+      runs_past : IsRunningThread y resumed b code ghost next past.graph_thread
+      runs_past = at_past (record {
+        late = late;
+        view = seen_log;
+        at_side = λ some. refl;
+        frame = λ word framed. ap (λ (ws : List Word). live_value (frame_in resumed.log ws n word)) quiet.words;
+        node = past.node;
+        logged = past.logged;
+        goes_to = past.goes;
+        owed = past.owed;
+        number = past.number;
+        registers = next.registers;
+        core = cores_see_all y.plan code.thread places resumed n past.node seen_past seen_log past.owed next.registers (now_of y b).variables
+            (record { own = past.own_node; at = there_past; ready = ready_past });
+        beside = past.framed;
+        goes = record { goes = goes; cleans = rests.cleans; execution = past.goes_on };
+        soon = whole_soon y n ghost.before_mark _ rests.whole (omega (arith, machine.short h next quiet.here, most_is y s h below));
+      })
+
+      own_late : InPhase y resumed b code ghost new (stands.each h below).graph_thread new.phase
+      own_late = own_by_run next quiet.here go_late.runs
+          (subst (IsRunningThread y resumed b code ghost next) (graph_thread_there past.graph_thread past.there) runs_past)
 
     own : InPhase y resumed b code ghost new (stands.each h below).graph_thread new.phase
-    own =
-        let here : slice_get resumed.harts h ≡ Some new = (moved_is y s w h stands w i.hart new i.here does refl refl queue).here in
-        let is : go.after ≡ new = same_there (slice_get resumed.harts h) go.after new there here in
-        let runs : IsRunningThread y resumed b code ghost go.after (stands.each h below).graph_thread =
-        subst (IsRunningThread y resumed b code ghost go.after) same_graph_thread
-        (runs_by go.told.place (resume_of ghost.new.point) go.told.resumes go.told.written (may_now go.told.place refl go.may) go.told.framed (record {
-          hart = go.after;
-          here = ap (slice_get resumed.harts) (same_number site) ∙ there;
-          runs = go.runs;
-          is = ap (config go.after.registers) go.pc;
-        })) in
-        subst (λ (x : Hart). InPhase y resumed b code ghost x (stands.each h below).graph_thread x.phase) is
-        (subst (InPhase y resumed b code ghost go.after (stands.each h below).graph_thread) (sym go.runs) runs)
+    own = elim (cases_Bool ghost.late) [
+      | inl late ↦ own_late late
+      | inr on_time ↦ own_on_time on_time
+    ]
 
   resumes : SimulatesStill y s w resumed stands
   resumes =

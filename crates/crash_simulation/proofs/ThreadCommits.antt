@@ -1,4 +1,5 @@
 -- A thread's begun steps are kept: what that is to it and to the others, and that their invariants still hold.
+use Rattle.crash_simulation.proofs.Common.{DescribesAs}
 use Rattle.crash_simulation.specs.ThreadGhosts.{IsLoaded, IsLoadedFirst, StandsAtNoStore, in_own_frame, just_read, loaded_ahead, own_word, read_ahead}
 use Rattle.crash_simulation.specs.ThreadGhosts.{read_first}
 use Rattle.crash_simulation.proofs.Common.{Bool, None, inl, ⊎_elim, ◌≡◌, ◌≢◌, ℕ, List, ◌∷◌, sym, ◌∙◌, ap, arith, subst, true, false, Option, Some, refl, suc}
@@ -62,7 +63,7 @@ module _ (y : System) (s : IsSystem y) (b : AbstractRun y) where
       (as_source y s b).alone u ∙ ap (λ (k : ℕ). slice_get (flow_solo x (kept_of y b) u k).graph_threads u) none in
       let same : IsSameTo x (now old) old.kept u =
       subst (λ (k : ℕ). IsSameTo x (now old) (solo old.kept u k) u) none (solo_law x old.kept old.uncommitted u i.keeps i.runs i.hands).same in
-      others_describe y.plan code (now_of y b) (kept_of y b) r describes (sym graph_thread)
+      others_describe y.plan code (now_of y b) (kept_of y b) false r describes (sym graph_thread)
       (ap (held_by u) (as_source y s b).kept_matches.holders ∙ (sym same.held ∙ ap (held_by u) (sym (as_source y s b).now_matches.holders)))
       (alike_back y.plan code.thread (now_of y b) (kept_of y b) graph_thread
       (assigns_alike y.plan s.plan code.thread (now_of y b) (kept_of y b) (now old) old.kept (as_source y s b).now_matches
@@ -123,7 +124,7 @@ module _ (y : System) (s : IsSystem y) (b : AbstractRun y) where
         let held : held_by t (kept_of y committed_run).holders ≡ held_by t (now_of y b).holders =
         ap (held_by t) (kept_matches y s committed_run).holders
         ∙ (sym (solo_law x old.kept old.uncommitted t i.keeps i.runs i.hands).same.held ∙ ap (held_by t) (sym (as_source y s b).now_matches.holders)) in
-        others_describe y.plan code (now_of y b) (kept_of y committed_run) r describes
+        others_describe y.plan code (now_of y b) (kept_of y committed_run) false r describes
         (subst (λ (k : ℕ). slice_get (kept_of y committed_run).graph_threads k ≡ slice_get (now_of y b).graph_threads k) (sym number) graph_threads.own)
         (subst (λ (k : ℕ). held_by k (kept_of y committed_run).holders ≡ held_by k (now_of y b).holders) (sym number) held)
         (own_alike code.thread number)
@@ -230,22 +231,22 @@ module _ (y : System) (s : IsSystem y) (b : AbstractRun y) where
           (subst (IsSameTo x committed_run.config.kept old.kept) (sym number) (same_other x old t invariant u apart)) threads
 
       -- another thread's record goes on to describe the kept state
-      pub describes_on : (code : Code y.plan) (r : Record) → code.thread.number ≡ u → Describes y.plan code (kept_of y b) r →
-          Describes y.plan code (kept_of y committed_run) r
-      describes_on code r number describes =
+      pub describes_on : (code : Code y.plan) (late : Bool) (r : Record) → code.thread.number ≡ u → DescribesAs y.plan code (kept_of y b) late r →
+          DescribesAs y.plan code (kept_of y committed_run) late r
+      describes_on code late r number describes =
           let held : held_by u (kept_of y committed_run).holders ≡ held_by u (kept_of y b).holders =
           ap (held_by u) (kept_matches y s committed_run).holders
           ∙ ((same_other x old t invariant u apart).held ∙ ap (held_by u) (sym (kept_matches y s b).holders)) in
-          others_describe y.plan code (kept_of y b) (kept_of y committed_run) r describes
+          others_describe y.plan code (kept_of y b) (kept_of y committed_run) late r describes
           (subst (λ (k : ℕ). slice_get (kept_of y committed_run).graph_threads k ≡ slice_get (kept_of y b).graph_threads k) (sym number) graph_thread_same)
           (subst (λ (k : ℕ). held_by k (kept_of y committed_run).holders ≡ held_by k (kept_of y b).holders) (sym number) held)
           (others_alike code.thread number)
 
 -- ---- Invariants where steps are kept
 
--- the ghost state, with its boundary taken as committed
+-- the ghost state, with its boundary taken as committed: it isn't late then
 abbrev pub taken : ThreadGhost → ThreadGhost
-taken c = record c { committed = true }
+taken c = record c { committed = true; late = false }
 
 -- ---- The thread itself, whose boundary is committed: none of its steps is begun
 
@@ -426,12 +427,13 @@ module _ (y : System) (s : IsSystem y) (b : AbstractRun y) (k : ℕ) (may : MayS
       committed = refl;
       record_is = refl;
       old_is = refl;
+      late_is = refl;
     };
     guards = λ v e g. subst (λ (z : State). Guards (flat_of y) z u v e) (sym (source_same y s b k may)) g;
     graph_thread = ap (λ (z : FlowState). slice_get z.graph_threads u) (now_same y s b k may);
     holds = ap (λ (z : FlowState). held_by u z.holders) (now_same y s b k may);
     alike = subst (λ (z : FlowState). AssignsAlike y.plan code.thread (now_of y b) z) (sym (now_same y s b k may)) (λ graph_thread is found at logged. refl);
-    describes = λ d. describes_on y s b k may u apart code (record_kept c) refl d;
+    describes = λ d. describes_on y s b k may u apart code c.late (record_kept c) refl d;
     last = λ mutex l. unlock_stays y s b k may u apart mutex l;
     nodes = λ j within. node_same y s b k may u apart j (longest_within j within);
     writes_back = λ j v e within written. writes_at_before y s b k may u apart j v e (longest_within j within) written;

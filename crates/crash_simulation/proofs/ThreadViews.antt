@@ -5,7 +5,7 @@ use Rattle.crash_simulation.proofs.Common.{◌≡◌, ℕ, List, sym, ◌∙◌,
 use Rattle.crash_simulation.proofs.Common.{Contains, cond-true, cond-false, none-some, Step, Log, IsWellFormedWorld, Hart, World, happens, after_event}
 use Rattle.crash_simulation.proofs.Common.{Outcome, moved, Effect, Slot, log_stays, get-set_same, GraphThread, contains_none, Config, attempt_of, steps_begun}
 use Rattle.crash_simulation.proofs.Common.{HasUnlocked, HasLocked, LogInv, Record, config_of, MovesTo, is_committed, Moves, LogIs, stays_committed, is_clean}
-use Rattle.crash_simulation.proofs.Common.{ExitPoint, Arrives, Gives, Ends, Keeps, Asks, Took, Code, Describes, same_there, AbstractRun, kept_of, now_of}
+use Rattle.crash_simulation.proofs.Common.{ExitPoint, Arrives, Gives, Ends, Keeps, Asks, Took, Code, Describes, DescribesAs, same_there, AbstractRun, kept_of, now_of}
 use Rattle.crash_simulation.proofs.Common.{System, Rests, ThreadGhost, GoesClean, IsBounded, ExitInv, HasStored, IsInAttempt, HasRecords, Computes, HasView}
 use Rattle.crash_simulation.proofs.Common.{IsFrameFlushed, IsFrameWord, IsOnItsWay, IsSectioned, LogView, frame_in, live_value, words_in, ℤ, AssignsAlike}
 use Rattle.crash_simulation.proofs.Common.{ExitOwes, FlowState, IsOwedAt, seen_by, the_core}
@@ -100,22 +100,23 @@ begins_with c r rest giving before_mark = record {
   cleans = [];
   giving = giving;
   before_mark = before_mark;
+  late = c.late;
   last_stores = c.last_stores;
   first_accesses = c.first_accesses;
 }
 
 module _ (y : System) (b : AbstractRun y) (code : Code y.plan) (c : ThreadGhost) {sooner : Bool} where
   -- where no boundary is under way, and nothing is to be given back
-  pub records_over : c.committed ≡ true → c.giving ≡ None → sooner ≡ true → Describes y.plan code (kept_of y b) c.new → HasRecords y b code c sooner
+  pub records_over : c.committed ≡ true → c.giving ≡ None → sooner ≡ true → DescribesAs y.plan code (kept_of y b) c.late c.new → HasRecords y b code c sooner
   records_over h0 h1 h2 h3 = grind (arith, cond-true, none-some, true≢false)
 
   -- where one is
-  pub records_begin : c.committed ≡ false → Describes y.plan code (kept_of y b) c.old → Describes y.plan code (now_of y b) c.new → HasRecords y b code c sooner
+  pub records_begin : c.committed ≡ false → DescribesAs y.plan code (kept_of y b) c.late c.old → Describes y.plan code (now_of y b) c.new → HasRecords y b code c sooner
   records_begin h0 h1 h2 = grind (arith, cond-false, true≢false)
 
   -- the record of a boundary that is taken as committed
-  pub describes_over : HasRecords y b code c sooner → c.committed ≡ true → Describes y.plan code (kept_of y b) c.new
-  describes_over records over = subst (Describes y.plan code (kept_of y b)) (cond-true c.committed c.new c.old over) records.describes
+  pub describes_over : HasRecords y b code c sooner → c.committed ≡ true → DescribesAs y.plan code (kept_of y b) c.late c.new
+  describes_over records over = subst (DescribesAs y.plan code (kept_of y b) c.late) (cond-true c.committed c.new c.old over) records.describes
 
 -- ---- How far it is
 
@@ -131,6 +132,7 @@ pub record IsStill (m next : Config) (thread : ℕ) (c new : ThreadGhost) : Type
   pub committed : new.committed ≡ c.committed
   pub record_is : new.new ≡ c.new
   pub old_is : new.old ≡ c.old
+  pub late_is : new.late ≡ c.late
 
 module _ (y : System) {m next : Config} {thread : ℕ} {c new : ThreadGhost} (still : IsStill m next thread c new) where
   pub goes_on : IsInAttempt y m thread c → IsInAttempt y next thread new
@@ -151,10 +153,10 @@ module _ (y : System) {m next : Config} {thread : ℕ} {c new : ThreadGhost} (st
   }
 
   untold_on : IsUntold y m thread c c.new → IsUntold y next thread new new.new
-  untold_on f none = ap (λ (r : Record). is_some r.written) still.record_is ∙ f (sym still.begun ∙ none)
+  untold_on f on_time none = ap (λ (r : Record). is_some r.written) still.record_is ∙ f (sym still.late_is ∙ on_time) (sym still.begun ∙ none)
 
   untold_old : IsUntold y m thread c c.old → IsUntold y next thread new new.old
-  untold_old f none = ap (λ (r : Record). is_some r.written) still.old_is ∙ f (sym still.begun ∙ none)
+  untold_old f on_time none = ap (λ (r : Record). is_some r.written) still.old_is ∙ f (sym still.late_is ∙ on_time) (sym still.begun ∙ none)
 
   pub exit_on : (graph_thread : GraphThread) (exit : ExitPoint) → ExitInv y m thread c graph_thread exit → ExitInv y next thread new graph_thread exit
   exit_on graph_thread Arrives f = (goes_on f.0, f.1, untold_on f.2)

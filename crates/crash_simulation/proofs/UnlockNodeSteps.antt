@@ -1,4 +1,5 @@
 -- A hart at the code of a node that gives a mutex back: it passes its mark, and the boundary before the call begins.
+use Rattle.crash_simulation.proofs.Common.{kept_of}
 use Rattle.crash_simulation.proofs.Common.{counted_own}
 use Rattle.crash_simulation.proofs.OwnHartSteps.{told_at, told_new}
 use Rattle.crash_simulation.proofs.Common.{recorded_in, ◌||◌, ◌++◌, ◌≢◌, ap₂, pos, Cleans, Contains, FrameIsComing, IsFrameFlushed, IsFrameWord, IsReady}
@@ -176,7 +177,7 @@ module _ {y : System} {s : IsSystem y} {w : World} {h : ℕ} (site : AtNode y s 
 
   -- the thread holds a mutex, so that its record has a point
   in_section : c.new.point ≢ 0
-  in_section = point_where (describes_over y b code c t.records site.core.goes.goes.committed)
+  in_section = point_where code (kept_of y b) c.late c.new (describes_over y b code c t.records site.core.goes.goes.committed)
       (held_in_kept y s b code site.core.goes.goes.going (holds_some n (now_of y b).holders mutex owned))
 
   none_ahead : c.cleans ++ c.rest ≡ []
@@ -453,14 +454,15 @@ module _ {y : System} {s : IsSystem y} {w : World} {h : ℕ} (site : AtNode y s 
           (ap (λ (z : FlowState). z.holders) state) (sym (own_giving site.hart) ∙ site.core.goes.goes.giving) refl
           (slice_get_within (now_of y next).graph_threads n graph_thread_next walks_next);
       counted = record {
-        marks = p.mark y.runs.marks refl;
+        late = refl;
+        marks = λ on_time. p.mark y.runs.marks refl;
         unlocked = λ lock gives. begins_unlock refl (unlocks_now ∙ gives);
         points = points;
         bound = bound;
         fences =
             coe 0 1 (i. AreFencesCounted (boundary_fences y.plan.log) ((sym p.fence) i) ((sym p.point) i) ((sym site.core.goes.goes.rest) i) p.later)
             first.fences;
-        nears = begins_step refl;
+        nears = begins_step (p.mark y.runs.marks refl);
         told = sym (told_new site);
         begins_told = told_at site;
         last = λ word. refl;

@@ -149,7 +149,8 @@ module _ {y : System} {s : IsSystem y} {w : World} {h : ℕ} (site : AtNode y s 
     gone = subst GoneOn (sym stays.still.on.runs) tt;
     held = held_still site.hart next new holders_stay refl refl (sym goes_here.giving);
     counted = record {
-      marks = stays.no_mark y.runs.marks;
+      late = refl;
+      marks = λ on_time. stays.no_mark y.runs.marks;
       unlocked = λ mutex gives. absurd (none-some mutex gives);
       points = stays.counts.0 ∙ sym (and_none (not (is_bound c)));
       bound = λ bound. absurd (not_bound c goes_here.committed bound);
@@ -159,7 +160,7 @@ module _ {y : System} {s : IsSystem y} {w : World} {h : ℕ} (site : AtNode y s 
           (same_fences (boundary_fences y.plan.log) _ _ [] stays.counts.1 stays.counts.0);
       nears = is_nearer nearer.0;
       told = ap (λ (r : Record). is_some r.written) (sym (cond-true c.committed c.new c.old goes_here.committed));
-      begins_told = λ no. absurd (true≢false (sym no));
+      begins_told = λ on_time no. absurd (true≢false (sym no));
       last = λ word. last_by y.runs.program w n word (c.last_stores word) hart d.effect is_next (stores_none word d.effect no_store);
       accesses = λ byte.
           accessed_by y.runs.program w n byte (c.first_accesses byte) hart d.effect is_next (held_up_accesses_none d.effect hart.queue d.held_up);

@@ -55,8 +55,9 @@ abbrev pub beginning_after : System → Beginning → (lives : List (List ℕ)) 
 beginning_after y g [] = g
 beginning_after y g (schedule ∷ rest) = beginning_after y (next_beginning y g schedule) rest
 
--- of a thread: its steps are counted, and the sections that its hart has left by a release
+-- of a thread: it isn't late, its steps are counted, and the sections that its hart has left by a release
 pub record IsAccountedOf (y : System) (w : World) (b : AbstractRun y) (thread : ℕ) (c : ThreadGhost) (pending : List PendingStep) (releases : ℕ) : Type 0 where
+  pub on_time : c.late ≡ false
   pub counted : IsCountedOf w thread c pending
   pub released : IsReleasedOf y w b thread c releases
 

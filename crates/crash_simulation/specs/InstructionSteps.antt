@@ -34,7 +34,7 @@ use Rattle.log_states.specs.Machines.{IsNext}
 use Rattle.crash_simulation.specs.Systems.{System, IsSystem, flat_of, shapes_of, places_of, thread_count}
 use Rattle.crash_simulation.specs.AbstractRuns.{AbstractRun, now_of}
 use Rattle.crash_simulation.specs.BoundaryFences.{boundary_fences, AreFencesCounted}
-use Rattle.crash_simulation.specs.ThreadGhosts.{ThreadGhost, InFragment, AtCore, ThreadInv, tells_write}
+use Rattle.crash_simulation.specs.ThreadGhosts.{ThreadGhost, InFragment, AtCore, AtPast, ThreadInv, tells_write}
 pub use Rattle.crash_simulation.specs.ThreadGhosts.{is_bound}
 use Rattle.crash_simulation.specs.SimulationRelation.{AreLocked, SimulatesBut, Simulates, anybody}
 
@@ -92,30 +92,31 @@ pub data IsUnlocked (s : State) (thread : ℕ) (begun : Bool) (giving : Option �
   begins_unlock : begun ≡ true → unlocks s thread ≡ Some mutex → IsUnlocked s thread begun giving mutex
 
 -- by the step the hart passes a mark, or it waits for a mutex, is one step nearer to its mark, or stops
-pub data Nears (y : System) (w : World) (h : ℕ) (begun : Bool) (old new : ℕ) : Type 0 where
-  begins_step : begun ≡ true → Nears y w h begun old new
-  waits : (mutex holder : ℕ) → happens y.runs.program w (Step h) ≡ (w, Waits mutex holder) → new ≡ old → Nears y w h begun old new
-  is_nearer : old ≡ suc new → Nears y w h begun old new
+pub data Nears (y : System) (w : World) (h : ℕ) (passes : Bool) (old new : ℕ) : Type 0 where
+  begins_step : passes ≡ true → Nears y w h passes old new
+  waits : (mutex holder : ℕ) → happens y.runs.program w (Step h) ≡ (w, Waits mutex holder) → new ≡ old → Nears y w h passes old new
+  is_nearer : old ≡ suc new → Nears y w h passes old new
   halts : (hart : Hart) → slice_get (after_event y.runs.program w (Step h)).harts h ≡ Some hart → (hart.phase ≡ Done) ⊎ (hart.phase ≡ Ended) →
-      Nears y w h begun old new
+      Nears y w h passes old new
 
 -- a boundary stands before the node by choice exactly where so is told
 abbrev pub IsTold : System → (node : ℕ) → (told : Bool) → Type 0
 IsTold y node told = (IsChosen y.plan.graph y.plan.boundaries node → told ≡ true) × (¬ (IsChosen y.plan.graph y.plan.boundaries node) → told ≡ false)
 
--- the step passes a mark exactly where a step of the source is begun, and stores the thread's point exactly where the steps become bound to that; what it
+-- the step passes a mark exactly where a step of the source is begun, unless the thread is late, and stores the thread's point exactly where the steps become bound to that; what it
 -- finishes of fences its boundary has no more ahead
 pub record IsCounted (y : System) (w : World) (b : AbstractRun y) (h : ℕ) (begun : Bool) (old new : ThreadGhost) : Type 0 where
-  pub marks : passes_mark y.runs.marks y.runs.program w h ≡ begun
+  pub late : new.late ≡ old.late
+  pub marks : old.late ≡ false → passes_mark y.runs.marks y.runs.program w h ≡ begun
   pub unlocked : (mutex : ℕ) → new.giving ≡ Some mutex → IsUnlocked (now b.config) h begun old.giving mutex
   pub points : stores_point y.runs.program w (Step h) h ≡ (not (is_bound old) && is_bound new)
   pub bound : is_bound old ≡ true → is_bound new ≡ true
   pub fences : AreFencesCounted (boundary_fences y.plan.log) (finishes_fence y.runs.program w (Step h) h) (stores_point y.runs.program w (Step h) h)
       old.rest new.rest
-  pub nears : Nears y w h begun old.before_mark new.before_mark
+  pub nears : Nears y w h (passes_mark y.runs.marks y.runs.program w h) old.before_mark new.before_mark
   -- what the kept record tells of a write stays, and is right of the node where the first step of an attempt is begun
   pub told : tells_write new ≡ tells_write old
-  pub begins_told : begun ≡ true → steps_begun b.config h ≡ 0 → (node : ℕ) → node_of (now_of y b) h ≡ Some node → IsTold y node (tells_write old)
+  pub begins_told : old.late ≡ false → begun ≡ true → steps_begun b.config h ≡ 0 → (node : ℕ) → node_of (now_of y b) h ≡ Some node → IsTold y node (tells_write old)
   -- a store is the last one then
   pub last : (word : ℕ) → new.last_stores word ≡ last_store_after y.runs.program w (Step h) h word (old.last_stores word)
   -- and an access the first one, if there was none
@@ -168,17 +169,24 @@ module _ {y : System} {s : IsSystem y} {w : World} {h : ℕ} (site : Site y s w 
   abbrev pub AtCoreNow : Type 0
   AtCoreNow = AtCore y w site.stands.abstract (s.codes.each h site.below) (site.stands.ghosts h) thread_of.log.hart thread_of.graph_thread
 
-  -- where a hart in Run makes its step: in a fragment, at its end where it calls or stores a local outside sections, or at the code of a node that takes no
-  -- mutex
+  abbrev pub AtPastNow : Type 0
+  AtPastNow = AtPast y w site.stands.abstract (s.codes.each h site.below) (site.stands.ghosts h) thread_of.log.hart thread_of.graph_thread
+
+  -- it stores a local outside sections, whose number is computed; or once more that of a logged assignment which its thread is past
+  pub data StoresLocal : Type 0 where
+    outside : (from local : ℕ) (number : ℤ) → OnFragmentNow (Computes from local number) 0 → StoresLocal
+    again : AtPastNow → StoresLocal
+
+  -- where a hart in Run makes its step: in a fragment, at its end where it calls, where it stores a local, or at the code of a node that takes no mutex
   pub data IsReadyToStep : Type 0 where
     on_fragment : (exit : ExitPoint) (steps : ℕ) → OnFragmentNow exit (suc steps) → IsReadyToStep
     calls : (exit : ExitPoint) → OnFragmentNow exit 0 → IsCalling exit → IsReadyToStep
-    stores_local : (from local : ℕ) (number : ℤ) → OnFragmentNow (Computes from local number) 0 → IsReadyToStep
+    stores_local : StoresLocal → IsReadyToStep
     at_core : AtCoreNow → ((is : Node) (lock : LockName) (next : ℕ) → NodeAt y.plan.graph thread_of.graph_thread.at is → is.action ≢ Lock lock next) →
         IsReadyToStep
 
 -- whether the thread's steps are bound, whether it leaves a section, what it has to give back, how near its hart is to the next mark, where that has
--- stored last, what it has done to each byte first, and what the kept record tells of a write, are the same
+-- stored last, what it has done to each byte first, what the kept record tells of a write, and whether it is late, are the same
 pub record SaysSame (new old : ThreadGhost) : Type 0 where
   pub bound : is_bound new ≡ is_bound old
   pub leaving : is_leaving new ≡ is_leaving old
@@ -187,6 +195,7 @@ pub record SaysSame (new old : ThreadGhost) : Type 0 where
   pub last : new.last_stores ≡ old.last_stores
   pub accesses : new.first_accesses ≡ old.first_accesses
   pub told : tells_write new ≡ tells_write old
+  pub late : new.late ≡ old.late
 
 -- two machines simulate the same abstract run, and the same is said of each thread
 pub record AreSimilar (y : System) (s : IsSystem y) {w v : World} (old : Simulates y s w) (new : Simulates y s v) : Type 0 where
@@ -220,8 +229,7 @@ CallsStep = (y : System) (s : IsSystem y) (w : World) (h : ℕ) (site : Site y s
     IsCalling exit → OwnStep y s w h site.stands
 
 abbrev pub LocalStoresStep : Type 0
-LocalStoresStep = (y : System) (s : IsSystem y) (w : World) (h : ℕ) (site : Site y s w h) → IsInPhase w h Run → (from local : ℕ) (number : ℤ) →
-    OnFragmentNow site (Computes from local number) 0 → OwnStep y s w h site.stands
+LocalStoresStep = (y : System) (s : IsSystem y) (w : World) (h : ℕ) (site : Site y s w h) → IsInPhase w h Run → StoresLocal site → OwnStep y s w h site.stands
 
 -- where a step of a hart that executes instructions is one of its thread's own, the machine simulates an abstract run after it, with commits still to be taken
 abbrev pub OwnStepsSimulate : Type 0

@@ -1,5 +1,5 @@
 -- Words with which recovery begins an execution anywhere: their records describe an origin.
-use Rattle.std.specs.Prelude.{◌≡◌, ℕ, List, length, map}
+use Rattle.std.specs.Prelude.{◌≡◌, ℕ, ◌<◌, List, length, map, false}
 use Rattle.machine_events.specs.declared.event.Event.{Event}
 use Rattle.log_schemes.specs.Layout.{word_count}
 use Rattle.ido_base.specs.Words.{word_of}
@@ -27,9 +27,10 @@ abbrev pub RecoveredWordsSimulate : Type 0
 RecoveredWordsSimulate = (y : System) (s : IsSystem y) (o : Origin (flat_of y)) (words : List ℕ) → IsRecoveredFrom y s o words →
     SimulatesFrom y s o (after_crash_of y.runs.log y.runs.program y.runs.mutexes words)
 
--- the account of its steps goes on from there, after schedules that were kept before
+-- where no thread stands late the account of its steps goes on from there, after schedules that were kept before
 abbrev pub RecoveredAreCounted : Type 0
-RecoveredAreCounted = (y : System) (s : IsSystem y) (o : Origin (flat_of y)) (words : List ℕ) (kept : LifeSchedules) → IsRecoveredFrom y s o words →
+RecoveredAreCounted = (y : System) (s : IsSystem y) (o : Origin (flat_of y)) (words : List ℕ) (kept : LifeSchedules) (is : IsRecoveredFrom y s o words) →
+    ((n : ℕ) → n < thread_count y → is.recovers.lates n ≡ false) →
     (events : List Event) →
     SimulatesLives y s (record { from = o.source; earlier = kept.earlier; kept = kept.schedule })
     (after_events y.runs.program (after_crash_of y.runs.log y.runs.program y.runs.mutexes words) events)

@@ -37,7 +37,7 @@ use Rattle.hart_runs.specs.RunSteps.{is_clean, steps_left}
 use Rattle.thread_code.specs.Plans.{IsLogged}
 use Rattle.thread_code.specs.RegistersAtNodes.{LogView}
 use Rattle.thread_runs.specs.CodeFragments.{ExitPoint, Arrives, Keeps, Computes, Asks, Took, Gives, Ends, IsOnFragment, IsAtCore, IsOwnWord, on_machine}
-use Rattle.recovered_threads.specs.RecordDescriptions.{Code, Describes, AreCounted, IsNumberAssigned, the_core, words_in}
+use Rattle.recovered_threads.specs.RecordDescriptions.{Code, Describes, DescribesAs, AreCounted, IsNumberAssigned, the_core, words_in}
 use Rattle.crash_simulation.specs.Systems.{System, flat_of, shapes_of}
 use Rattle.crash_simulation.specs.AbstractRuns.{AbstractRun, kept_of, now_of, attempts_of}
 use Rattle.crash_simulation.specs.Accesses.{Access, load}
@@ -59,6 +59,8 @@ pub record ThreadGhost : Type 0 where
   pub before_mark : ℕ
   -- of each word the position of the hart's last store into it since the last start or crash, if there was one
   pub last_stores : (word : ℕ) → Option ℕ
+  -- its thread stands past a logged assignment that its kept record tells: recovery stores that once more
+  pub late : Bool
   -- of each byte the hart's first access since its last store of its point, or since the last start or crash
   pub first_accesses : (byte : ℕ) → Option Access
 
@@ -132,9 +134,9 @@ module _ (y : System) (m : Config) (thread : ℕ) (c : ThreadGhost) where
     pub before : c.committed ≡ false → Before
     pub after : c.committed ≡ true → steps_begun m thread ≡ 0
 
-  -- where the attempt has no step, the boundary before it stands before no node by choice
+  -- where the attempt has no step, the boundary before it stands before no node by choice; unless the thread is late
   abbrev pub IsUntold : Record → Type 0
-  IsUntold r = steps_begun m thread ≡ 0 → is_some r.written ≡ false
+  IsUntold r = c.late ≡ false → steps_begun m thread ≡ 0 → is_some r.written ≡ false
 
   -- what is true of a thread in a fragment, by the fragment's exit point: no boundary counts on a local that is stored outside sections
   abbrev pub ExitInv : GraphThread → ExitPoint → Type 0
@@ -262,7 +264,7 @@ pub record HasRecords (y : System) (b : AbstractRun y) (code : Code y.plan) (c :
   -- what is taken as committed is so; more may be
   pub no_sooner : c.committed ≡ true → sooner ≡ true
   -- the record that is kept describes the kept state, and that of the boundary under way, until it is committed, the state now
-  pub describes : Describes y.plan code (kept_of y b) (record_kept c)
+  pub describes : DescribesAs y.plan code (kept_of y b) c.late (record_kept c)
   pub will_describe : c.committed ≡ false → Describes y.plan code (now_of y b) c.new
   -- a mutex that it has still to give back, where its steps are kept, is unlocked by its last one of these
   pub unlocked : (mutex : ℕ) → c.giving ≡ Some mutex → c.committed ≡ true → LastUnlocks b.origin.source b.schedule code.thread.number mutex
@@ -315,9 +317,27 @@ module _ (y : System) (w : World) (b : AbstractRun y) (code : Code y.plan) (c : 
     pub untold : ¬ (IsChosen y.plan.graph y.plan.boundaries graph_thread.at) → IsUntold y b.config code.thread.number c c.new
     pub soon : IsSoon y code.thread.number c.before_mark (length hart.queue + core_ahead y.plan code.is.places graph_thread.at)
 
+  -- resumed at a logged assignment that it is past: the next instruction stores its local once more
+  pub record AtPast (hart : Hart) (graph_thread : GraphThread) : Type 0 where
+    pub late : c.late ≡ true
+    pub view : LogView
+    pub at_side : IsSideOf c.new view.side
+    pub frame : HasView w code.thread.number view
+    pub node : ℕ
+    pub logged : IsLogged y.plan code.thread node
+    pub goes_to : logged.assigns.next ≡ graph_thread.at
+    pub owed : ℤ
+    pub number : slice_get graph_thread.locals logged.local ≡ Some owed
+    pub registers : List ℕ
+    pub core : IsAtCore y.plan code.thread code.is.places w code.thread.number node (seen_by (now_of y b) graph_thread) view owed registers
+    pub beside : AreCounted y.plan code.thread node the_core c.new.framed
+    pub goes : GoesClean y b.config code.thread.number c false graph_thread
+    pub soon : IsSoon y code.thread.number c.before_mark (length hart.queue)
+
   pub data IsRunningThread (hart : Hart) (graph_thread : GraphThread) : Type 0 where
     on_fragment : (exit : ExitPoint) (steps : ℕ) → InFragment hart graph_thread exit steps → IsRunningThread hart graph_thread
     at_core : AtCore hart graph_thread → IsRunningThread hart graph_thread
+    at_past : AtPast hart graph_thread → IsRunningThread hart graph_thread
 
   abbrev pub InPhase : Hart → GraphThread → Phase → Type 0
   InPhase hart graph_thread Take = Rests y b.config code.thread.number c

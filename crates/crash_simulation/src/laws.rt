@@ -50,7 +50,7 @@ pub fn settled_is_kept()
     ensures { SettledIsKept }
 {}
 
-/// A hart that executes instructions may be taken to be in a fragment, at the call that ends one, at the store of a local outside sections, or at the code of
+/// A hart that executes instructions may be taken to be in a fragment, at the call that ends one, at the store of a local, or at the code of
 /// a node that takes no mutex.
 pub fn runs_ready()
     ensures { RunsReady }
@@ -70,11 +70,13 @@ pub fn cores_step()
     marks_pass();
 }
 
-/// What a step of a hart is to its thread that stores a local outside sections, whose number is computed.
+/// What a step of a hart is to its thread that stores a local: outside sections, where its number is computed; or once more that of a logged assignment
+/// which the thread is past.
 pub fn local_stores_step()
     ensures { LocalStoresStep }
 {
     fragments_go_on();
+    marks_pass();
 }
 
 /// What a step of a hart at its call is to its thread.

@@ -179,7 +179,7 @@ module _ (fragments_step : FragmentsStep) (cores_step : CoresStep) (local_stores
     along (event ∷ events) on w account lives from stored since =
         let stands = stands_in lives in
         let o = event_goes_on fragments_step cores_step local_stores_step law y s w event stands in
-        let keeps = o.on on.0 in
+        let keeps = (o.on on.0).counted (λ n inside. (lives.carried.is.counted.each n inside).on_time) in
         let one = one_if (stores_point y.runs.program w event h) in
         let account_then = steps_after y.runs.marks y.runs.program w event account in
         let lives_then : Lives (after_event y.runs.program w event) account_then = record {

@@ -173,6 +173,8 @@ module _ (p : Plan) (t : Thread) (program : Program) (code : IsThreadCode p t pr
     performs = λ m effect same stands answered owed does.
         performs is m effect (ap (slice_get p.graph.nodes) same ∙ at) does
         (n.performs m effect same (at_core m stands) (λ none. answered_as m is.action (answered none)) owed does);
+    assigns = λ m same stands logged word home.
+        sets_logged m word logged.local m.owed logged.assigns.next (n.assigns m same (at_core m stands) logged word home);
     calls = calls is.action node n.calls;
     cleans = cleaning node is is.action at refl n.cleans;
     price = n.price;

@@ -10,8 +10,6 @@ use Rattle.log_schemes.specs.declared.size.LogSize.{LogSize}
 use Rattle.log_schemes.specs.declared.size.LogSize.TheVariants.{Lines16, Lines32}
 use Rattle.log_schemes.specs.Schemes.{lines_of, size_of}
 use Rattle.ido_base.specs.Layout.{variable_lines}
-use Rattle.log_schemes.specs.Schemes.{locals_of}
-use Rattle.log_schemes.specs.declared.locals.Locals.TheVariants.{Registers}
 use Rattle.log_schemes.specs.declared.log.Log.{Log}
 use Rattle.ido_base.specs.declared.limits.TheConstants.{MOST_STEPS, VARIABLE_WORDS}
 use Rattle.machine_events.specs.declared.event.Event.{Event}
@@ -295,32 +293,26 @@ words_in newest bytes image (whole read is) =
     ∙ ap₂ (λ (m n : ℕ). m + n) variables
     (is.is.after.fits.logs ∙ ap (λ (l : Log). log_words l * length object.code.items) (sym is.is.source.compiled.translated.log))
 
--- its version's log has its locals where the object's has them
-logged : (version : ImageVersion) (source : List ℕ) (c : Compiled) → IsCompiledAs (log_of version) source c →
-    locals_of c.translated.object.log ≡ Registers → locals_of (log_of version) ≡ Registers
-logged version source c compiled registers = ap locals_of (sym compiled.translated.log) ∙ registers
-
--- what is read as an image is run on where locals stand in registers, whoever wrote it
+-- what is read as an image is run on, whoever wrote it
 pub accepted_runs_on : AcceptedRunOn → (newest : ImageVersion) (bytes : List ℕ) (image : i.Image) → IsImageAnswer newest bytes (Ok image) →
-    locals_of image.compiled.translated.object.log ≡ Registers → RunsOn (translation_in image.compiled) (image_in (translation_in image.compiled) (file_in image))
-accepted_runs_on run newest bytes image (whole read is) registers =
+    RunsOn (translation_in image.compiled) (image_in (translation_in image.compiled) (file_in image))
+accepted_runs_on run newest bytes image (whole read is) =
     let c = image.compiled in
     let t = c.translated in
     let state = is.state in
     let kept = (file_in image).kept in
     let compiled = is.is.source.compiled in
     let after = is.is.after in
-    let on = run is.version (logged is.version is.is.source.source c compiled registers) (f.flat_of c.flat) t.object t.marks t.cuts t.resumes.items state kept compiled.resumable after.fits
-    after.references is.sound in
+    let on = run is.version (f.flat_of c.flat) t.object t.marks t.cuts t.resumes.items state kept compiled.resumable after.fits after.references is.sound in
     let count : length state.variables ≡ length t.object.initial.items / 8 = omega (arith, after.fits.variables) in
     let spread = ap₂ (λ (n : ℕ) (ws : List ℕ). spread_words n ws) count (sym is.words) in
     subst (λ (ws : List ℕ). RunsOn (translation_in c) (record { words = ws; kept = kept })) spread on
 
 -- and where it is settled, lives go on from it as from the source's start
 pub accepted_goes_on : AcceptedGoOn → (newest : ImageVersion) (bytes : List ℕ) (image : i.Image) → IsImageAnswer newest bytes (Ok image) →
-    locals_of image.compiled.translated.object.log ≡ Registers → let c = translation_in image.compiled in
+    let c = translation_in image.compiled in
     IsSettledImage c (image_in c (file_in image)) → (events : List Event) → IsCarriedOn c (image_in c (file_in image)) events
-accepted_goes_on go_on newest bytes image (whole read is) registers settled events =
+accepted_goes_on go_on newest bytes image (whole read is) settled events =
     let c = image.compiled in
     let t = c.translated in
     let state = is.state in
@@ -330,6 +322,6 @@ accepted_goes_on go_on newest bytes image (whole read is) registers settled even
     let count : length state.variables ≡ length t.object.initial.items / 8 = omega (arith, after.fits.variables) in
     let spread = ap₂ (λ (n : ℕ) (ws : List ℕ). spread_words n ws) count (sym is.words) in
     let here = subst (λ (ws : List ℕ). IsSettledImage (translation_in c) (record { words = ws; kept = kept })) (sym spread) settled in
-    let on = go_on is.version (logged is.version is.is.source.source c compiled registers) (f.flat_of c.flat) t.object t.marks t.cuts t.resumes.items state kept compiled.resumable after.fits
-    after.references is.sound here events in
+    let on = go_on is.version (f.flat_of c.flat) t.object t.marks t.cuts t.resumes.items state kept compiled.resumable after.fits after.references is.sound here
+    events in
     subst (λ (ws : List ℕ). IsCarriedOn (translation_in c) (record { words = ws; kept = kept }) events) spread on

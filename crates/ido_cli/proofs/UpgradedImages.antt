@@ -20,11 +20,9 @@ use Rattle.compiler_correctness.specs.Images.{variable_words}
 use Rattle.compiler_correctness.specs.Translations.{Translation}
 use Rattle.file_fields.specs.Fields.{Fault, Version, magic_at, number_at, ◌>>=◌}
 use Rattle.file_fields.proofs.Public.{bind_ok, ok_is}
-use Rattle.crash_images.specs.Contents.{Tells, contents, log_of, number_of}
+use Rattle.crash_images.specs.Contents.{Tells, contents, number_of}
 use Rattle.crash_images.specs.ImageDecoder.{known, source_at, version_in}
 use Rattle.crash_images.specs.ImageEncoder.{magic}
-use Rattle.log_schemes.specs.Schemes.{locals_of}
-use Rattle.log_schemes.specs.declared.locals.Locals.TheVariants.{Registers}
 use Rattle.crash_images.specs.declared.version.ImageVersion.{ImageVersion}
 use Rattle.crash_images.specs.declared.version.ImageVersion.TheVariants.{First, Second, Third, Fourth}
 use Rattle.ido_compile.specs.declared.compiler.Compiled.{Compiled}
@@ -135,17 +133,6 @@ one_life First lives older told = told
 one_life Second lives older told = told
 one_life Third lives older told = absurd (omega (arith, older))
 one_life Fourth lives older told = absurd (omega (arith, older))
-
-in_registers : (version : ImageVersion) → number_of version ≤ number_of Second → locals_of (log_of version) ≡ Registers
-in_registers First older = refl
-in_registers Second older = refl
-in_registers Third older = refl
-in_registers Fourth older = absurd (omega (arith, older))
-
--- where an older image's locals stand
-pub older_registers : (bytes : List ℕ) (image : Image) → IsImage Second bytes image → locals_of image.compiled.translated.object.log ≡ Registers
-older_registers bytes image is =
-    ap locals_of is.is.source.compiled.translated.log ∙ in_registers is.version (older_known bytes is.version is.is.source.known)
 
 none_long : {A : Type 0} (xs : List A) → length xs ≡ 0 → xs ≡ []
 none_long [] none = refl

@@ -13,8 +13,6 @@ use Rattle.log_schemes.specs.declared.size.LogSize.{LogSize}
 use Rattle.log_schemes.specs.declared.size.LogSize.TheVariants.{Lines16, Lines32}
 use Rattle.log_schemes.specs.Schemes.{lines_of, size_of as log_size}
 use Rattle.flat_compile.specs.TranslatedForms.{command_log}
-use Rattle.log_schemes.specs.Schemes.{locals_of}
-use Rattle.log_schemes.specs.declared.locals.Locals.TheVariants.{Registers}
 use Rattle.ido_base.specs.declared.place.Place.{Place}
 use Rattle.ido_base.specs.Layout.{aligned_up, end_from, spread_words, variable_lines}
 use Rattle.log_schemes.specs.Layout.{log_words, word_count}
@@ -310,9 +308,6 @@ module _ (one_flat : OneFlat) (never_both : NotBoth) (output source : List ℕ) 
     has : HasState Fourth output Third d is.state
     has = subst (λ (v : ImageVersion). HasState Fourth output v d is.state) (sym (ok_is Third is.version (sym known ∙ is.is.source.known))) is.is
 
-    registers : locals_of d.translated.object.log ≡ Registers
-    registers = ap locals_of has.source.compiled.translated.log
-
     same_form : flat_of d.flat ≡ flat
     same_form = same_flat d has.source
 
@@ -492,6 +487,5 @@ upgrades_go_on one_flat never_both references crashes go_on input output image s
     let right = came_right input image older.is u.journal references crashes before same in
     let long = came_long input image older.is u.journal in
     accepted_goes_on go_on Fourth output read (whole read is)
-    (registers one_flat never_both output source made v compiled older.again older.accepted w right long kept out.1 resumed.runs out.0 out.2 read is)
     (settled_image one_flat never_both output source made v compiled older.again older.accepted w right long kept out.1 resumed.runs out.0 out.2 read is
     (resumed.between out.0) (resumed.variables out.0)) events

@@ -5,8 +5,6 @@ use Rattle.ido_base.specs.declared.place.Place.{Place}
 use Rattle.ido_base.specs.declared.limits.TheConstants.{MOST_INPUT_BYTES, MOST_SOURCE_BYTES}
 use Rattle.ido_outside.specs.Causes.{Rose}
 use Rattle.ido_outside.specs.Sink.{Adds, AddsPrefix}
-use Rattle.log_schemes.specs.Schemes.{locals_of}
-use Rattle.log_schemes.specs.declared.locals.Locals.TheVariants.{Registers}
 use Rattle.log_schemes.specs.declared.log.Log.{Log}
 use Rattle.c_tree.specs.Flats as f
 use Rattle.c_tree.specs.declared.rule.Rule as r
@@ -205,14 +203,13 @@ pub record LoadAnswer (log : Log) (rounds seed : ℕ) (status : ℕ) (output : L
 abbrev pub file_in : i.Image → Image
 file_in image = record { words = image.words.items; kept = lives_in image.lives.earlier.items image.lives.schedule.items }
 
--- What an input of an image is answered: its first fault, or what is said of a run that goes on from it. Where locals stand in registers, that run is never
--- stuck, its delays are bounded, and no hart waits that takes its locks, whoever wrote the image.
+-- What an input of an image is answered: its first fault, or what is said of a run that goes on from it. That run is never stuck, its delays are bounded, and no
+-- hart waits that takes its locks, whoever wrote the image.
 pub data RecoverAnswer (turns : ℕ) (input : List ℕ) (status : ℕ) (output : List ℕ) : Type 0 where
   no_image : (error : ImageError) → IsImageAnswer Fourth input (Err error) → status ≡ 6 → image_line error ≡ Some output →
       RecoverAnswer turns input status output
   of_image : (image : i.Image) → IsImageAnswer Fourth input (Ok image) →
-      (locals_of image.compiled.translated.object.log ≡ Registers →
-      RunsOn (translation_in image.compiled) (image_in (translation_in image.compiled) (file_in image))) →
+      RunsOn (translation_in image.compiled) (image_in (translation_in image.compiled) (file_in image)) →
       IsRecovery (translation_in image.compiled) (file_in image) turns status output → RecoverAnswer turns input status output
 
 -- ---- `upgrade`

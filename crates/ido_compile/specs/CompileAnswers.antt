@@ -7,7 +7,7 @@ use Rattle.rv64_isa.specs.declared.object.Marks.{Marks}
 use Rattle.flow_graph.specs.declared.cuts.Cuts.{Cuts}
 use Rattle.compiler_correctness.specs.Translations.{Translation, translation_to}
 use Rattle.compiler_correctness.specs.Compilations.{IsCompilation}
-use Rattle.flat_compile.specs.TranslatedForms.{IsTranslatedAs, IsResumableAs, command_log}
+use Rattle.flat_compile.specs.TranslatedForms.{IsTranslatedAs, IsResumableAs}
 use Rattle.ido_compile.specs.declared.compiler.Compiled.{Compiled}
 use Rattle.ido_compile.specs.LoggedTexts.{IsAcceptedAs, IsRefusedAs}
 use Rattle.ido_compile.specs.declared.error.CompileError.{CompileError}
@@ -34,11 +34,3 @@ abbrev pub IsCompileAnswerAs : Log → (text : List ℕ) → Result Compiled Com
 IsCompileAnswerAs log text (Ok c) = IsCompiledAs log text c
 IsCompileAnswerAs log text (Err (e.Refused x)) = IsRefusedAs log text x.rule x.place
 IsCompileAnswerAs log text (Err e.Memory) = Unit {0}
-
--- ---- By commands
-
-abbrev pub IsCompiled : (text : List ℕ) → Compiled → Type 0
-IsCompiled text c = IsCompiledAs command_log text c
-
-abbrev pub IsCompileAnswer : (text : List ℕ) → Result Compiled CompileError → Type 0
-IsCompileAnswer text answer = IsCompileAnswerAs command_log text answer

@@ -1,6 +1,6 @@
 -- What a crash leaves of a run has no fault.
-use Rattle.std.proofs.Common.{◌≡◌, refl, ap₂, ℕ, ◌+◌, ◌-◌, ◌*◌, ◌≤◌, List, ◌++◌, length, map, take, drop, ap, sym, subst, ◌∙◌, arith, length-drop}
-use Rattle.std.specs.Prelude.{Vec, sum_by}
+use Rattle.std.proofs.Common.{◌≡◌, refl, ap₂, ℕ, ◌+◌, ◌-◌, ◌*◌, ◌<◌, ◌≤◌, List, ◌++◌, length, map, take, drop, ap, sym, subst, ◌∙◌, arith, length-drop}
+use Rattle.std.specs.Prelude.{Vec, sum_by, false}
 use Rattle.std.specs.Global.{Global}
 use Rattle.std.proofs.Math.Seq.{take-append_seam, drop-append_seam}
 use Rattle.std.proofs.lemmas.List.{length-map, length-take-le}
@@ -24,7 +24,7 @@ use Rattle.flow_graph.specs.declared.cuts.Cuts.{Cuts}
 use Rattle.flow_graph.specs.IdempotentCuts.{Boundaries}
 use Rattle.crash_simulation.specs.AccountRelation.{MachinesResume}
 use Rattle.crash_simulation.specs.SimulationRelation.{Simulates}
-use Rattle.crash_simulation.specs.Systems.{System, IsSystem, flat_of}
+use Rattle.crash_simulation.specs.Systems.{System, IsSystem, flat_of, thread_count}
 use Rattle.compiler_correctness.specs.Images.{variable_words}
 use Rattle.compiler_correctness.specs.Laws.{MachinesRecord, translation_of}
 use Rattle.compiler_correctness.specs.Translations.{Translation, steps, world, translation_to}
@@ -81,6 +81,11 @@ module _ (machines : MachinesResume) (records : MachinesRecord) (y : System) (s 
   stands : Simulates y s (world c events)
   stands = (machines y s events).is.stands
 
+  -- no thread is late
+  on_time : (n : ℕ) → n < thread_count y → (stands.ghosts n).late ≡ false
+  unfolding stands
+  on_time n below = ((machines y s events).is.counted.each n below).on_time
+
   logs : (world c events).log ≡ log
   logs = sym stands.machine.log ∙ first
 
@@ -104,7 +109,7 @@ module _ (machines : MachinesResume) (records : MachinesRecord) (y : System) (s 
   unshared : (threads : ℕ) → threads ≡ length y.runs.program → (lock : ℕ) → IsUnshared (logs_of log left.logs) threads lock
   unshared threads is lock =
       subst (λ (ls : List ℕ). IsUnshared (logs_of log ls) threads lock) (sym logs_are)
-      (subst (λ (k : ℕ). IsUnshared (logs_of log (logs_left words)) k lock) (sym (is ∙ s.count)) (are_unshared y s (world c events) stands log logs lock))
+      (subst (λ (k : ℕ). IsUnshared (logs_of log (logs_left words)) k lock) (sym (is ∙ s.count)) (are_unshared y s (world c events) stands on_time log logs lock))
 
   scheduled : sum_by length kept ≤ MOST_STEPS → AreSchedules (flat_of y) (start (flat_of y)) 0 left.lives
   scheduled most = merged_lives (flat_of y) (start (flat_of y)) 0 kept (omega (arith, most)) (records y s events).kept
@@ -124,7 +129,7 @@ module _ (machines : MachinesResume) (records : MachinesRecord) (y : System) (s 
       IsWellFormedState log (flat_of y) table left
   sound table is most = record {
     logs = subst (λ (ls : List ℕ). AreSound (flat_of y) table (logs_of log ls)) (sym logs_are)
-        (are_sound y s (world c events) stands log logs table is);
+        (are_sound y s (world c events) stands on_time log logs table is);
     mutexes = unshared (length table) (is.count ∙ sym s.count);
     schedules = scheduled most;
   }

@@ -1,4 +1,5 @@
 -- What a crash leaves of the logs of a compiled program: each thread can be resumed by its own, and no two hold one mutex.
+use Rattle.recovered_threads.specs.RecordDescriptions.{DescribesAs}
 use Rattle.std.proofs.Common.{◌≡◌, ◌≢◌, ◌⊎◌, inl, inr, refl, ℕ, ◌+◌, ◌-◌, ◌/◌, ◌<◌, ◌≤◌, ap, ap₂, sym, subst, ◌∙◌, arith, cond}
 use Rattle.std.proofs.Common.{Option, Some, None, Bool, true, false}
 use Rattle.std.proofs.Common.{List, [], length, map, drop, get_or, get_or-drop}
@@ -77,7 +78,7 @@ use Rattle.rv64_codegen.proofs.Public.{colours_long}
 use Rattle.crash_simulation.specs.AbstractRuns.{kept_of}
 use Rattle.crash_simulation.specs.SimulationRelation.{Simulates}
 use Rattle.crash_simulation.specs.Systems.{System, IsSystem, flat_of, thread_count}
-use Rattle.crash_simulation.proofs.Public.{kept_good, left, left_describes, left_point, log_of, orderly, owes_here}
+use Rattle.crash_simulation.proofs.Public.{kept_good, left, lates, left_describes, left_point, log_of, orderly, owes_here}
 use Rattle.flat_compile.specs.declared.resumes.LiveLocal.{LiveLocal}
 use Rattle.flat_compile.specs.declared.resumes.Resume.{Resume}
 use Rattle.flat_compile.specs.ResumePlaces.{Spot, Before, After, IsAssignedAt, IsAssignedLocal, IsSpot, address_in, colours_in, goes_on_at, knowns_before}
@@ -149,7 +150,8 @@ place p code node stand address own (past_unlock from lock is from_own there unl
 
 -- ---- The log of a thread
 
-module _ (y : System) (s : IsSystem y) (w : World) (stands : Simulates y s w) (log : Log) (first : w.log ≡ log) where
+module _ (y : System) (s : IsSystem y) (w : World) (stands : Simulates y s w) (on_time : (n : ℕ) → n < thread_count y → (stands.ghosts n).late ≡ false)
+    (log : Log) (first : w.log ≡ log) where
   abbrev logs : Logs
   logs = logs_of log (logs_left w.words)
 
@@ -174,6 +176,10 @@ module _ (y : System) (s : IsSystem y) (w : World) (stands : Simulates y s w) (l
 
     abbrev r : Record
     r = left y s w stands n
+
+    -- its record describes what is kept, and no thread is late
+    describes : Describes y.plan code kept r
+    describes = subst (λ (late : Bool). DescribesAs y.plan code kept late r) (on_time n below) (left_describes y s w stands n below)
 
     standing : LogInv n nothing_recorded r after []
     standing =
@@ -788,7 +794,7 @@ module _ (y : System) (s : IsSystem y) (w : World) (stands : Simulates y s w) (l
 
           holds_here : held_names_before y.plan t at ≢ []
           holds_here none =
-              i.point ((points_have_locks y.plan code kept r s.plan (orderly y s stands.abstract) (left_describes y s w stands n below)).0
+              i.point ((points_have_locks y.plan code kept false r s.plan (orderly y s stands.abstract) describes).0
               (cond-false (r.point == 0) [] r.locks (ne_eqb r.point 0 i.point) ∙ (i.locks ∙ ap (map (lock_number locals)) none)))
 
           -- a logged assignment is told
@@ -944,7 +950,7 @@ module _ (y : System) (s : IsSystem y) (w : World) (stands : Simulates y s w) (l
     resumable_by rs are (inside some i) = resumable_inside i rs are
 
     pub resumable : (rs : List Resume) → AreResumes y.plan t code.program code.is rs → IsResumableLog (flat_of y) rs logs n
-    resumable rs are = resumable_by rs are (left_describes y s w stands n below)
+    resumable rs are = resumable_by rs are describes
 
   -- ---- All logs
 
@@ -956,7 +962,7 @@ module _ (y : System) (s : IsSystem y) (w : World) (stands : Simulates y s w) (l
   pub are_unshared : (lock : ℕ) → IsUnshared logs (thread_count y) lock
   are_unshared lock one other apart within here there =
       let below : one < thread_count y = omega (arith, apart, within) in
-      let same = records_are_apart y.plan s.codes kept (left y s w stands) s.plan (orderly y s stands.abstract) (left_describes y s w stands)
+      let same = records_are_apart y.plan s.codes kept (lates y s w stands) (left y s w stands) s.plan (orderly y s stands.abstract) (left_describes y s w stands)
       one other lock below within
       (ap (λ (locks : List ℕ). has_lock locks lock) (sym (locks_logged one below)) ∙ here)
       (ap (λ (locks : List ℕ). has_lock locks lock) (sym (locks_logged other within)) ∙ there) in

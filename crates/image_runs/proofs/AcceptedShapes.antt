@@ -1,7 +1,7 @@
 -- What an image without a fault has after its source has the shape.
-use Rattle.std.proofs.Common.{◌≡◌, ◌≢◌, refl, ℕ, zero, suc, ◌+◌, ◌-◌, ◌*◌, ◌%◌, ◌<◌, ◌≤◌, List, [], ◌∷◌, length, map, get_or, ap, sym, ◌∙◌, subst, arith}
-use Rattle.std.proofs.Common.{Option, Some, inl, inr, Bool, true, false, ◌&&◌}
-use Rattle.std.specs.Prelude.{slice_get, slice_index, slice_index_or, find, is_some, ◌==◌, Contains, ℤ, pos}
+use Rattle.std.proofs.Common.{◌≡◌, ◌≢◌, refl, ℕ, zero, suc, ◌+◌, ◌-◌, ◌*◌, ◌%◌, ◌<◌, ◌≤◌, List, [], ◌∷◌, length, map, get_or, ap, ap₂, sym, ◌∙◌, subst, arith}
+use Rattle.std.proofs.Common.{Option, Some, None, inl, inr, Bool, true, false, ◌&&◌}
+use Rattle.std.specs.Prelude.{◌↔◌, slice_get, slice_index, slice_index_or, find, is_some, ◌==◌, Contains, ℤ, pos}
 use Rattle.std.specs.List.{AllZip}
 use Rattle.std.proofs.lemmas.Bool.{cases_Bool, cases_lt, cond-true, cond-false, eq-eqb, eqb-true, eqb-false, true≢false}
 use Rattle.std.proofs.lemmas.List.{length-map}
@@ -25,11 +25,11 @@ use Rattle.ido_base.specs.Locks.{has_lock}
 use Rattle.ido_base.specs.Words.{Word, word_of}
 use Rattle.ido_ints.specs.declared.kinds.Kind.{Kind}
 use Rattle.ido_ints.specs.declared.kinds.Kind.TheVariants.{UnsignedLong}
-use Rattle.ido_ints.specs.Kinds.{Holds}
+use Rattle.ido_ints.specs.Kinds.{Holds, bytes_of}
 use Rattle.ido_ints.specs.Reduction.{reduced, register_of}
 use Rattle.ido_ints.specs.TypedNumbers.{typed}
 use Rattle.ido_ints.proofs.Public.{Holds-reduced, reduced-register}
-use Rattle.c_tree.specs.Exprs.{LockName}
+use Rattle.c_tree.specs.Exprs.{LockName, ToLocal}
 use Rattle.c_tree.specs.Flats as f
 use Rattle.c_tree.specs.Flats.{Flat}
 use Rattle.c_tree.specs.LockNames.{Held, held_names, lock_names}
@@ -48,40 +48,46 @@ use Rattle.machine_model.specs.Machine.{durable_at, durable_point, bank_of, resu
 use Rattle.rv64_isa.specs.Rows.{read}
 use Rattle.variable_words.proofs.Public.{well_formed_placed}
 use Rattle.flow_graph.specs.HeldKeys as keys
-use Rattle.flow_graph.specs.Nodes.{Node}
+use Rattle.flow_graph.specs.IdempotentCuts.{stores}
+use Rattle.flow_graph.specs.Lowering.{threads_nodes}
+use Rattle.flow_graph.specs.Nodes.{Action, Eval, Store, Test, Lock, Unlock, End, Graph, Node}
 use Rattle.flow_graph.specs.Liveness.{NodeAt}
 use Rattle.flow_graph.specs.Paths.{naming_of}
-use Rattle.flow_graph.proofs.Public.{all_at}
+use Rattle.flow_graph.proofs.Public.{ShapedAs, all_at, node_shaped, nodes_at}
 use Rattle.known_references.proofs.Public.{found_or}
 use Rattle.log_states.specs.Logs.{HasLog, IsKeepable, IsWord, log_word}
-use Rattle.log_states.specs.BanksRead.{HasKept}
+use Rattle.log_states.specs.BanksRead.{HasKept, HasTold}
 use Rattle.log_states.proofs.Public.{banks_read, contains_cases, contains_none}
 use Rattle.rv64_codegen.proofs.Public.{numbers_plain}
-use Rattle.thread_code.specs.Plans.{Plan, Thread, home_at, locks_before, locks_held, locks_held_from, set_before}
+use Rattle.thread_code.specs.Plans.{Plan, Thread, IsLogged, home_at, locks_before, locks_held, locks_held_from, set_before}
 use Rattle.thread_code.specs.RegistersAtNodes.{frame_loads}
-use Rattle.recovered_threads.specs.RecordDescriptions.{Code, CountsOn, NodePlace, ResumesAt}
+use Rattle.thread_code.specs.NodeCodeEffects.{bytes_written}
+use Rattle.recovered_threads.specs.RecordDescriptions.{Code, ComesNext, CountsOn, NodePlace, ResumesAt, the_core, the_entry}
 use Rattle.recovered_threads.specs.RecordDescriptions as telling
 use Rattle.crash_simulation.specs.Systems.{System, IsSystem, flat_of}
 use Rattle.flat_compile.specs.declared.resumes.LiveLocal.{LiveLocal}
 use Rattle.flat_compile.specs.declared.resumes.Resume.{Resume}
-use Rattle.flat_compile.specs.ResumePlaces.{Spot, IsSpot, address_in, goes_on_at, place_at, place_in, IsLiveLocal, IsResumeOf, AreResumes}
+use Rattle.flat_compile.specs.ResumePlaces.{Spot, IsAssignedAt, IsSpot, address_in, goes_on_at, place_at, place_in, IsLiveLocal, IsResumeOf, AreResumes}
 use Rattle.flat_compile.specs.ResumePlaces.{knowns_before, refers_in, resumes_at}
-use Rattle.flat_compile.proofs.Public.{coloured, few_colours, home_is}
+use Rattle.flat_compile.proofs.Public.{coloured, few_colours, home_is, node_there}
 use Rattle.flat_compile.specs.ResumePlaces as places
-use Rattle.image_checks.specs.Logs.{AreOnce, HoldsLock, KeepsAs, Logs, home_in, home_word, register_in, local_by, locks_by, logged, logs_of, names_at, slot_in}
+use Rattle.image_checks.specs.Logs.{AreOnce, HavePairs, HoldsLock, KeepsAs, Logs, home_in, home_word, register_in, local_by, locks_by, logged, logs_of}
+use Rattle.image_checks.specs.Logs.{names_at, slot_in}
 use Rattle.image_checks.specs.Checks.{IsElementOf, IsForm, IsLocalWord, IsReferenceWord, IsResumableLog, IsUnnull, IsUnshared}
 use Rattle.image_checks.specs.Checks.{kinds_of_thread, names_of_thread, resume_at}
 use Rattle.image_checks.specs.Checks as checks
 use Rattle.image_checks.specs.ResumeSlots.{HaveKinds}
 use Rattle.image_checks.specs.VariableReferences.{AreReferences}
 use Rattle.image_checks.proofs.Public.{above_frame, found_local, local_at, locals_held, locks_are, locks_each, locks_there, named_held, point_is}
-use Rattle.image_checks.proofs.Public.{recorded_there}
+use Rattle.image_checks.proofs.Public.{StoresAs, bytes_of_element, recorded_there, stores_elements}
 use Rattle.crash_images.specs.Contents.{log_of}
 use Rattle.image_runs.specs.Shapes.{GoesOnAt, HasThreadShape}
 use Rattle.image_runs.specs.Shapes as shapes
 use Rattle.image_runs.specs.Laws.{AcceptedHaveShape}
 use Rattle.image_checks.proofs.Public.{refers_are, zip_there}
 use Rattle.image_checks.proofs.Public.{few_elements, reference_of_word, some_of_word}
+use Rattle.image_runs.proofs.HeldAtNodes.{IsWrite, at_core, chosen_write, kind_of_assigned, no_store, of_element, of_local}
+use Rattle.operator_code.specs.ComputingCode.{Carries}
 use Rattle.image_runs.proofs.ResumedLocals.{address_keepable, colour_keepable, value_keepable}
 use Rattle.image_runs.proofs.SpreadReferences.{spread_references}
 use Rattle.image_runs.proofs.SpreadWords as spread
@@ -161,6 +167,13 @@ once_from at (true ∷ held) (suc i) (suc j) lock a b = ap suc (once_from (at + 
 
 held_once : (held : Held) → AreOnce (locks_held held)
 held_once held = once_from 0 held
+
+in_pairs : (slot : ℕ → ℕ) (pairs : List (ℕ × ℕ)) → HavePairs slot pairs → (one : ℕ × ℕ) → Contains pairs one → slot one.0 ≡ one.1
+in_pairs slot [] have one c = absurd (contains_none one c)
+in_pairs slot (pair ∷ pairs) have one c = elim (contains_cases pair pairs one c) [
+  | inl same ↦ subst (λ (z : ℕ × ℕ). slot z.0 ≡ z.1) (sym same) have.0
+  | inr more ↦ in_pairs slot pairs have.1 one more
+]
 
 -- ---- The words of the logs, where the machine has them
 
@@ -439,13 +452,173 @@ module _ (y : System) (words : List Word) (ws : List ℕ)
             subst (IsReferenceWord x.variables (variable_refers x.variables location.variable))
             (sym (register_there pending_value (value_keepable log))) has
 
+      -- ---- What is written next
+
+      resumes_here : ResumesAt y.plan code r.node place (resume_of (durable_point log words n))
+      resumes_here =
+          subst (λ (a : ℕ). ResumesAt y.plan code r.node place a) (of.at ∙ (at ∙ w.address_is))
+          (subst (λ (q : NodePlace). ResumesAt y.plan code r.node q (address_in code.is.places of.spot)) of.stands
+          (subst (λ (m : ℕ). ResumesAt y.plan code m (place_in of.spot) (address_in code.is.places of.spot)) of.goes_on
+          (resumes_by y.plan code of.spot of.is)))
+
+      abbrev is_here : Node
+      is_here = (node_there y.plan s.plan t code.of r.node of.found.own).0
+
+      at_here : NodeAt y.plan.graph r.node is_here
+      at_here = (node_there y.plan s.plan t code.of r.node of.found.own).1
+
+      flat_here : slice_get (threads_nodes x x.threads 0) r.node ≡ Some is_here
+      flat_here = nodes_at x r.node is_here (subst (λ (g : Graph). NodeAt g r.node is_here) s.plan.lowered at_here)
+
+      shaped : (a : Action) → is_here.action ≡ a → ShapedAs (threads_nodes x x.threads 0) is_here a
+      shaped a does = subst (λ (z : Action). ShapedAs (threads_nodes x x.threads 0) is_here z) does (node_shaped x r.node is_here flat_here)
+
+      pending_here : r.pending ≡ is_here.writes
+      pending_here = of.found.pending_is is_here at_here
+
+      kind_assigned : (logged : IsLogged y.plan t r.node) → slice_get t.kinds logged.local ≡ Some logged.assigns.kind
+      kind_assigned logged = kind_of_assigned y.plan s.plan t code.of r.node of.found.own logged.local logged.assigns
+
+      -- the entry has the local of a logged assignment
+      local_assigned : IsLogged y.plan t r.node → LiveLocal
+      local_assigned logged = record {
+        colour = (coloured y.plan s.plan t code.of logged.local logged.assigns.kind (kind_assigned logged)).0;
+        local = logged.local;
+        kind = logged.assigns.kind;
+        refers = (refers_there logged.local logged.assigns.kind (kind_assigned logged)).0;
+        known = false;
+      }
+
+      assigned_is : place ≡ the_core → (logged : IsLogged y.plan t r.node) → r.assigned ≡ Some (local_assigned logged)
+      unfolding local_assigned
+      assigned_is core logged =
+          (subst (λ (z : NodePlace). (r.assigned ≡ Some (local_assigned logged)) ↔ IsAssignedAt y.plan t r.node z (local_assigned logged)) core
+          (of.found.assigned_is (local_assigned logged))).1 (record {
+            logged = logged;
+            local_is = refl;
+            kind_is = kind_assigned logged;
+            refers_is = (refers_there logged.local logged.assigns.kind (kind_assigned logged)).1;
+            known_is = refl;
+            coloured = (coloured y.plan s.plan t code.of logged.local logged.assigns.kind (kind_assigned logged)).1;
+          })
+
+      stored : place ≡ the_core → (logged : IsLogged y.plan t r.node) → shapes.StoresAssigned y.plan code words logged.local
+      unfolding local_assigned
+      stored core logged =
+          let l : LiveLocal = local_assigned logged in
+          let word : ℕ = register_in logs n bank pending_value in
+          let address : register_in logs n bank pending_address ≡ frame_at log n l.colour =
+          subst (λ (o : Option LiveLocal). checks.IsWordNext x logs n bank o (register_in logs n bank pending_address)) (assigned_is core logged)
+          right.write.address.word in
+          let value : IsLocalWord x.variables l word =
+          subst (λ (o : Option LiveLocal). checks.IsLocalValue x logs n bank o word) (assigned_is core logged) right.write.value.local in
+          let colour = coloured y.plan s.plan t code.of logged.local logged.assigns.kind (kind_assigned logged) in
+          let there = register_there pending_value (value_keepable log) in
+          record {
+            number = reduced logged.assigns.kind (pos word);
+            word = frame_at log n l.colour;
+            home =
+                home_is y.plan s.plan t code.of logged.local colour.0 colour.1 ∙ ap (λ (ls : Locals). home_at ls log n colour.0) logged.frame;
+            address = register_there pending_address (address_keepable log) ∙ address;
+            value = λ k kind.
+                let same : logged.assigns.kind ≡ k = same_Some logged.assigns.kind k (sym (kind_assigned logged) ∙ kind) in
+                subst (λ (j : Kind). Carries (shapes.resumed y.plan code words) pending_value (typed j (reduced logged.assigns.kind (pos word)))) same
+                (record { held = Holds-reduced logged.assigns.kind (pos word); form = there ∙ back logged.assigns.kind word value.form });
+            refer = λ array refers.
+                let own : l.refers ≡ Some array =
+                same_Some l.refers (Some array) (sym (refers_there logged.local logged.assigns.kind (kind_assigned logged)).1 ∙ refers) in
+                let long : logged.assigns.kind ≡ UnsignedLong =
+                same_Some logged.assigns.kind UnsignedLong (sym (kind_assigned logged) ∙ kind_there logged.local array refers) in
+                subst (λ (k : Kind). IsNullOrReference (elements_of x.variables array) (reduced k (pos word))) (sym long)
+                (reference_of_word (elements_of x.variables array) word (few_elements x.mutexes x.variables array s.plan.formed.shared.variables)
+                (subst (λ (o : Option ℕ). IsReferenceWord x.variables o word) own value.reference));
+          }
+
+      assigned_there : shapes.HasAssignment y.plan code words r.node place
+      assigned_there = by place refl
+        where
+          by : (z : NodePlace) → place ≡ z → shapes.HasAssignment y.plan code words r.node z
+          by the_entry e = tt
+          by the_core e = λ logged. stored e logged
+
+      -- ---- What the bank is told of it
+
+      abbrev bytes : Option ℕ
+      bytes = checks.bytes_next x.variables r.pending r.assigned
+
+      none_next : is_here.writes ≡ None → r.assigned ≡ None → bytes ≡ None
+      none_next none unassigned =
+          ap₂ (λ (p : Option Location) (a : Option LiveLocal). checks.bytes_next x.variables p a) (pending_here ∙ none) unassigned
+
+      stores_here : StoresAs x s.plan.formed.shared.variables is_here is_here.action
+      stores_here = stores_elements x s.plan.formed.shared.variables r.node is_here s.plan.formed.threads flat_here
+
+      module _ (written : Option ℕ) where
+        -- at an entry nothing is written next
+        at_entry : place ≡ the_entry → ResumesAt y.plan code r.node the_entry (resume_of (durable_point log words n)) → bytes ≡ None
+        at_entry entry resumes = none_next (by is_here.action refl) (unassigned r.assigned refl)
+          where
+            by : (a : Action) → is_here.action ≡ a → is_here.writes ≡ None
+            by (Eval target value next) does = (shaped (Eval target value next) does).1.writes
+            by (Store variable kind next) does = absurd (no_store y.plan s.plan code r.node _ resumes (stores is_here variable kind next at_here does))
+            by (Test condition to other) does = (shaped (Test condition to other) does).1.writes
+            by (Lock lock next) does = (shaped (Lock lock next) does).1
+            by (Unlock lock next) does = (shaped (Unlock lock next) does).1
+            by End does = (shaped End does).1
+
+            unassigned : (o : Option LiveLocal) → r.assigned ≡ o → r.assigned ≡ None
+            unassigned None e = e
+            unassigned (Some l) e = absurd (subst (λ (z : NodePlace). IsAssignedAt y.plan t r.node z l) entry ((of.found.assigned_is l).0 e))
+
+        element_next : (location : Location) → is_here.writes ≡ Some location → bytes ≡ bytes_written is_here.action
+        element_next location writes = by is_here.action refl stores_here
+          where
+            none : is_here.writes ≡ None → bytes ≡ bytes_written is_here.action
+            none e = absurd (none-some location (sym e ∙ writes))
+
+            by : (a : Action) → is_here.action ≡ a → StoresAs x s.plan.formed.shared.variables is_here a → bytes ≡ bytes_written is_here.action
+            by (Eval target value next) does it = none (shaped (Eval target value next) does).1.writes
+            by (Store variable kind next) does it =
+                ap (λ (p : Option Location). checks.bytes_next x.variables p r.assigned) (pending_here ∙ it.writes)
+                ∙ (ap (λ (b : ℕ). Some b) (ap (checks.element_bytes x.variables) it.variable_is
+                ∙ (bytes_of_element x.variables variable it.it it.found ∙ ap bytes_of it.kind_is)) ∙ sym (ap bytes_written does))
+            by (Test condition to other) does it = none (shaped (Test condition to other) does).1.writes
+            by (Lock lock next) does it = none (shaped (Lock lock next) does).1
+            by (Unlock lock next) does it = none (shaped (Unlock lock next) does).1
+            by End does it = none (shaped End does).1
+
+        local_next : place ≡ the_core → (logged : IsLogged y.plan t r.node) → bytes ≡ bytes_written is_here.action
+        local_next core logged =
+            let it = logged.assigns in
+            let does : is_here.action ≡ Eval (ToLocal it.place logged.local it.kind) it.assigned it.next =
+            ap (λ (z : Node). z.action) (same_Some is_here it.is (sym at_here ∙ it.at)) ∙ it.action in
+            ap₂ (λ (p : Option Location) (a : Option LiveLocal). checks.bytes_next x.variables p a)
+            (pending_here ∙ (shaped (Eval (ToLocal it.place logged.local it.kind) it.assigned it.next) does).1.writes) (assigned_is core logged)
+            ∙ sym (ap bytes_written does)
+
+        next_is : ComesNext y.plan r.node place written → bytes ≡ written
+        next_is comes = by place refl resumes_here comes
+          where
+            by : (z : NodePlace) → place ≡ z → ResumesAt y.plan code r.node z (resume_of (durable_point log words n)) → ComesNext y.plan r.node z written →
+                bytes ≡ written
+            by the_entry e resumes none = at_entry e resumes ∙ sym none
+            by the_core e resumes next = core (chosen_write y.plan s.plan code r.node of.found.own (at_core y.plan code r.node _ resumes).0)
+              where
+                core : IsWrite y.plan s.plan code r.node → bytes ≡ written
+                core (of_element other location at writes) =
+                    element_next location (ap (λ (z : Node). z.writes) (same_Some is_here other (sym at_here ∙ at)) ∙ writes) ∙ sym (next is_here at_here)
+                core (of_local logged) = local_next e logged ∙ sym (next is_here at_here)
+
+        told_there : ComesNext y.plan r.node place written → HasTold log words n written
+        told_there comes one c =
+            slot_there one.0
+            ∙ in_pairs slot (schemes.told log written)
+            (subst (λ (o : Option ℕ). HavePairs slot (schemes.told log o)) (next_is comes) right.write.address.told) one c
+
       goes_on : GoesOnAt y.plan code words r.node place
       goes_on = record {
         own = of.found.own;
-        resumes = subst (λ (a : ℕ). ResumesAt y.plan code r.node place a) (of.at ∙ (at ∙ w.address_is))
-            (subst (λ (q : NodePlace). ResumesAt y.plan code r.node q (address_in code.is.places of.spot)) of.stands
-            (subst (λ (m : ℕ). ResumesAt y.plan code m (place_in of.spot) (address_in code.is.places of.spot)) of.goes_on
-            (resumes_by y.plan code of.spot of.is)));
+        resumes = resumes_here;
         numbers = numbers;
         held = held;
         locals = local_there;
@@ -455,6 +628,8 @@ module _ (y : System) (words : List Word) (ws : List ℕ)
         once = once_as (keeping_of log) refl right.locks;
         pending = λ is location at_node writes. address_there is location at_node writes;
         value = λ is location at_node writes. value_there is location at_node writes;
+        assigned = assigned_there;
+        told = told_there;
       }
 
     thread_shape : (rs : List Resume) → AreResumes y.plan t code.program code.is rs → IsResumableLog x rs logs n →

@@ -1,5 +1,5 @@
 -- What a crash leaves of a run has the shape.
-use Rattle.std.proofs.Common.{◌≡◌, ◌≢◌, refl, ℕ, ◌<◌, List, [], length, map, ap, sym, ◌∙◌, subst, arith, Option, Some, None, true}
+use Rattle.std.proofs.Common.{◌≡◌, ◌≢◌, refl, ℕ, ◌<◌, List, [], length, map, ap, sym, ◌∙◌, subst, arith, Option, Some, None, Bool, true, false}
 use Rattle.std.specs.Prelude.{slice_get, Contains, ℤ, slice_index_or, pos, is_some, ◌==◌}
 use Rattle.std.specs.List.{AllZip}
 use Rattle.std.proofs.lemmas.Bool.{cond-false, ne_eqb}
@@ -14,43 +14,46 @@ use Rattle.ido_base.specs.Locks.{has_lock}
 use Rattle.ido_base.specs.Words.{Word, word_of, durable_value}
 use Rattle.ido_ints.specs.declared.kinds.Kind.{Kind}
 use Rattle.ido_ints.specs.Kinds.{Holds}
+use Rattle.ido_ints.specs.Reduction.{reduced}
 use Rattle.ido_ints.specs.TypedNumbers.{typed}
 use Rattle.c_tree.specs.Exprs.{LockName}
 use Rattle.c_tree.specs.Flats as f
 use Rattle.c_tree.specs.LockNames.{lock_names}
 use Rattle.c_tree.specs.NullReferences.{is_among}
 use Rattle.c_tree.specs.Ranges.{elements_of}
-use Rattle.c_tree.specs.References.{variable_refers}
+use Rattle.c_tree.specs.References.{IsFlatThreadReferring, IsLocalReferring, variable_refers}
 use Rattle.c_tree.specs.Source as m
 use Rattle.c_tree.specs.Source.{Pending}
 use Rattle.c_tree.specs.WellFormed.{shape_of}
 use Rattle.c_ranges.specs.Laws.{IsNullOrReference}
 use Rattle.c_ranges.specs.RunInvariants.{IsReferringThread, IsStoreInRange, IsThreadOf, RefersSo}
-use Rattle.c_ranges.proofs.Public.{zip_at}
+use Rattle.c_ranges.proofs.Public.{zip_at, zip_found}
 use Rattle.source_machine.specs.Discipline.{HoldsNames, KeepsLeft}
 use Rattle.source_machine.proofs.Public.{held_is_given}
 use Rattle.memory_layout.specs.Roles.{pending_address, pending_value}
 use Rattle.rv64_isa.specs.Rows.{read}
 use Rattle.machine_model.specs.Machine.{World, after_event, durable_at, happens, after_crash_of, resume_of, record_of}
 use Rattle.machine_model.proofs.Public.{log_stays}
-use Rattle.flow_graph.specs.Actions.{FlowState, Seen, seen_by}
+use Rattle.flow_graph.specs.Actions.{FlowState, Seen, Sets, effect_of, number_in, seen_by}
 use Rattle.flow_graph.specs.IdempotentCuts.{stores}
 use Rattle.flow_graph.specs.Liveness.{NodeAt, IsLive}
 use Rattle.flow_graph.specs.Lockstep.{GraphThreadMatches, Standing}
 use Rattle.flow_graph.specs.Lowering.{lowered, threads_nodes}
 use Rattle.flow_graph.specs.Nodes.{Action, Eval, Store, Test, Lock, Unlock, End, Graph, Node}
 use Rattle.flow_graph.specs.Paths.{LiesInWritten, naming_of, stored_element}
-use Rattle.flow_graph.proofs.Public.{Good, ShapedAs, found_in, node_shaped, nodes_at}
+use Rattle.flow_graph.proofs.Public.{Good, ShapedAs, all_at, found_in, node_shaped, nodes_at}
 use Rattle.log_states.specs.LogInvariant.{LogInv}
 use Rattle.log_states.specs.Logs.{Record, IsRecord, IsRecorded, HasLog, frame_in, framed_of, nothing_recorded}
-use Rattle.log_states.specs.BanksRead.{HasKept}
+use Rattle.log_states.specs.BanksRead.{HasKept, HasTold}
 use Rattle.log_states.specs.Laws.{ResumesRecord}
 use Rattle.log_states.specs.Machines.{config_of}
 use Rattle.log_states.proofs.Public.{crashes_standing, durable_is, ends, log_facts}
-use Rattle.thread_code.specs.Plans.{Thread, IsKept, IsLogged, locks_before, of_address, of_entry, of_local, of_value, set_before}
-use Rattle.thread_code.specs.RegistersAtNodes.{HasPending, IsAtHome, IsCountedOn, IsLiveBeside, IsPendingIn, IsReady, MayAssign, by_assignment, by_entry}
-use Rattle.thread_code.specs.RegistersAtNodes.{frame_loads, to_assign, to_enter}
-use Rattle.recovered_threads.specs.RecordDescriptions.{Code, CountsOn, Describes, IsInside, IsOrderly, MayGoOn, NodePlace, ResumesAt, between, inside}
+use Rattle.thread_code.specs.Plans.{Thread, IsKept, IsKeptBefore, IsLogged, locks_before, of_address, of_entry, of_local, of_number, of_value, of_word}
+use Rattle.thread_code.specs.Plans.{set_before}
+use Rattle.thread_code.specs.RegistersAtNodes.{HasAssigned, HasPending, IsAtHome, IsCountedOn, IsLiveBeside, IsPendingIn, IsReady, MayAssign, by_assignment}
+use Rattle.thread_code.specs.RegistersAtNodes.{by_entry, frame_loads, to_assign, to_enter}
+use Rattle.recovered_threads.specs.RecordDescriptions.{Code, ComesNext, CountsOn, Describes, DescribesAs, IsInside, IsNumberAssigned, IsOrderly, MayGoOn}
+use Rattle.recovered_threads.specs.RecordDescriptions.{NodePlace, ResumesAt, between, inside}
 use Rattle.recovered_threads.specs.RecordDescriptions.{locks_of, registers_kept, the_core, the_entry}
 use Rattle.recovered_threads.proofs.Public.{records_are_apart, stands_in_word}
 use Rattle.region_attempts.specs.KnownReferences.{AreUnnull, known_at}
@@ -59,13 +62,15 @@ use Rattle.crash_simulation.specs.AbstractRuns.{kept_of}
 use Rattle.crash_simulation.specs.AccountRelation.{MachinesResume}
 use Rattle.crash_simulation.specs.SimulationRelation.{Simulates}
 use Rattle.crash_simulation.specs.Systems.{System, IsSystem, flat_of, thread_count}
-use Rattle.crash_simulation.proofs.Public.{kept_good, left, left_describes, log_of, orderly, owes_here}
+use Rattle.crash_simulation.proofs.Public.{kept_good, left, lates, left_describes, log_of, orderly, owes_here}
 use Rattle.compiler_correctness.specs.Laws.{translation_of}
 use Rattle.compiler_correctness.specs.Translations.{world}
 use Rattle.flat_compile.specs.ResumePlaces.{knowns_before, refers_in}
 use Rattle.image_checks.specs.Logs.{AreOnce}
 use Rattle.image_checks.specs.Checks.{IsElementOf, IsReferenceWord}
 use Rattle.image_checks.proofs.Public.{AreApart, left_refer, locks_are, once_by, one_assigned, word_of as frame_word_of}
+use Rattle.image_checks.proofs.Public.{assigned_refers}
+use Rattle.flat_compile.proofs.Public.{node_there}
 use Rattle.image_runs.specs.Shapes.{GoesOnAt, HasThreadShape, HasShape}
 use Rattle.image_runs.specs.Shapes as shapes
 use Rattle.image_runs.specs.Laws.{CrashesLeaveShape}
@@ -79,7 +84,8 @@ use Rattle.expr_code.specs.declared.home.Home.{Home}
 use Rattle.expr_code.specs.declared.home.Home.TheVariants.{InFrame, InRegister}
 use Rattle.expr_code.specs.EvaluationCode.{home_of, HomeCarries}
 
-module _ (y : System) (s : IsSystem y) (w : World) (stands : Simulates y s w) where
+module _ (y : System) (s : IsSystem y) (w : World) (stands : Simulates y s w)
+    (on_time : (n : ℕ) → n < thread_count y → (stands.ghosts n).late ≡ false) where
   abbrev ws : List Word
   ws = map word_of (map durable_value w.words)
 
@@ -414,6 +420,66 @@ module _ (y : System) (s : IsSystem y) (w : World) (stands : Simulates y s w) wh
         has : Has
         has = written is.action refl (stores_elements (flat_of y) s.plan.formed.shared.variables at is s.plan.formed.threads here)
 
+      -- ---- Where an assignment is logged
+
+      -- the number that it owes is one that the local may have
+      owed_refers : (logged : IsLogged y.plan t at) → length locals ≡ length t.kinds → IsNumberAssigned y.plan t at seen i.owed → (array : ℕ) →
+          slice_get (refers_in y.plan t) logged.local ≡ Some (Some array) → IsNullOrReference (elements_of (flat_of y).variables array) i.owed
+      owed_refers logged count owes array refers =
+          let a = logged.assigns in
+          let number : ℤ = reduced a.kind (number_in seen a.assigned.expr) in
+          let does : effect_of a.is.action seen ≡ Some (Sets logged.local number a.next) = ap (λ (z : Action). effect_of z seen) a.action in
+          let own : slice_get code.of.text.refers logged.local ≡ Some (Some array) =
+          ap (λ (rs : List (Option ℕ)). slice_get rs logged.local) (sym (refers_are y.plan t code.of)) ∙ refers in
+          let form : AllZip IsLocalReferring code.of.text.locals code.of.text.refers =
+          (all_at (IsFlatThreadReferring (flat_of y)) (flat_of y).threads t.number code.of.text s.plan.formed.referring.threads code.of.of_text).locals in
+          let kind = (zip_found IsLocalReferring code.of.text.locals code.of.text.refers logged.local (Some array) form own).found in
+          let within : logged.local < length locals =
+          (let l = slice_get_within code.of.text.locals logged.local _ kind in
+          omega (arith, l, count, ap (λ (ks : List Kind). length ks) code.of.kinds)) in
+          let flat_at : NodeAt (lowered (flat_of y)) at a.is = subst (λ (g : Graph). NodeAt g at a.is) s.plan.lowered a.at in
+          subst (RefersSo (flat_of y).variables (Some array)) (sym (owes a.is logged.local number a.next a.at logged does))
+          (assigned_refers (flat_of y) s.plan.formed kept good t.number code.of.text code.of.of_text i.graph_thread i.there a.is flat_at logged.local a.next
+          number does within (Some array) own)
+
+      assigned : shapes.HasAssignment y.plan code ws at i.place
+      assigned = by i.place refl i.may
+        where
+          kept_at_core : i.place ≡ the_core → (register : ℕ) → IsKeptBefore y.plan t at register →
+              read (shapes.resumed y.plan code ws) register ≡ read r.registers register
+          kept_at_core core register is =
+              resumes_own.registers i.point register
+              (subst (λ (live : List ℕ). Contains live register)
+              (ap (λ (z : NodePlace). registers_kept code.is.places at z) (sym core) ∙ sym i.live) ((code.is.kept at i.own register).1 is))
+
+          stored : i.place ≡ the_core → (logged : IsLogged y.plan t at) → MayGoOn y.plan t at the_core seen i.view i.owed r.registers →
+              IsReady y.plan t at seen i.view i.owed r.registers → shapes.StoresAssigned y.plan code ws logged.local
+          stored core logged may (to_enter none enters) = absurd (none logged)
+          stored core logged may (to_assign other m) =
+              let same : other.local ≡ logged.local = one_assigned y.plan s.plan at other.local logged.local other.assigns logged.assigns in
+              let has = subst (λ (k : ℕ). HasAssigned t k i.owed r.registers) same m.assigned in
+              record {
+                number = i.owed;
+                word = has.word;
+                home = has.home;
+                address = kept_at_core core pending_address (of_word logged) ∙ has.address;
+                value = λ k kind.
+                    let carried = has.carries k kind in
+                    record { held = carried.held; form = kept_at_core core pending_value (of_number logged) ∙ carried.form };
+                refer = owed_refers logged m.count may.1;
+              }
+
+          by : (stand : NodePlace) → i.place ≡ stand → May stand → shapes.HasAssignment y.plan code ws at stand
+          by the_entry e may = tt
+          by the_core e may = λ logged. stored e logged may may.0
+
+      told : (written : Option ℕ) → ComesNext y.plan at i.place written → HasTold y.plan.log ws t.number written
+      told written comes = subst (HasTold y.plan.log ws t.number) (by i.place i.written comes) (resumes_own.told i.point)
+        where
+          by : (stand : NodePlace) → ComesNext y.plan at stand r.written → ComesNext y.plan at stand written → r.written ≡ written
+          by the_entry own other = own ∙ sym other
+          by the_core own other = let is = node_there y.plan s.plan t code.of at i.own in own is.0 is.1 ∙ sym (other is.0 is.1)
+
       goes_on : GoesOnAt y.plan code ws at i.place
       goes_on = record {
         own = i.own;
@@ -427,6 +493,8 @@ module _ (y : System) (s : IsSystem y) (w : World) (stands : Simulates y s w) wh
         once = once;
         pending = λ is location there writes. (has is there location writes).address;
         value = λ is location there writes. (has is there location writes).value;
+        assigned = assigned;
+        told = told;
       }
 
     shape_by : Describes y.plan code kept r → HasThreadShape y.plan code ws
@@ -434,7 +502,7 @@ module _ (y : System) (s : IsSystem y) (w : World) (stands : Simulates y s w) wh
     shape_by (inside some i) = shapes.resumes i.graph_thread.at i.place (λ zeroth. i.point (sym resumes_own.point ∙ zeroth)) (goes_on i)
 
     pub thread_shape : HasThreadShape y.plan code ws
-    thread_shape = shape_by (left_describes y s w stands n below)
+    thread_shape = shape_by (subst (λ (late : Bool). DescribesAs y.plan code kept late r) (on_time n below) (left_describes y s w stands n below))
 
   locks_there : (g : ℕ) → (gb : g < thread_count y) → (lock : ℕ) → has_lock (record_of y.plan.log ws g) lock ≡ true →
       has_lock (locks_of (left y s w stands g)) lock ≡ true
@@ -449,9 +517,10 @@ module _ (y : System) (s : IsSystem y) (w : World) (stands : Simulates y s w) wh
     references = left_refer y s w stands;
     threads = thread_shape;
     apart = λ g h lock gb hb gl hl.
-        records_are_apart y.plan s.codes kept (left y s w stands) s.plan (orderly y s stands.abstract) (left_describes y s w stands)
+        records_are_apart y.plan s.codes kept (lates y s w stands) (left y s w stands) s.plan (orderly y s stands.abstract) (left_describes y s w stands)
         g h lock gb hb (locks_there g gb lock gl) (locks_there h hb lock hl);
   }
 
 pub crashes_leave_shape : MachinesResume → CrashesLeaveShape
-crashes_leave_shape machines y s events = has_shape y s (world (translation_of y) events) (machines y s events).is.stands
+crashes_leave_shape machines y s events =
+    has_shape y s (world (translation_of y) events) (machines y s events).is.stands (λ n below. ((machines y s events).is.counted.each n below).on_time)

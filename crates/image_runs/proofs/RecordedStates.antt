@@ -7,7 +7,6 @@ use Rattle.std.proofs.Math.Bridge.{le_prop}
 use Rattle.std.proofs.lemmas.Bool.{cases_Bool, cases_lt, cond-true, cond-false, eq-eqb, or_left, true≢false}
 use Rattle.std.proofs.lemmas.List.{length-replicate}
 use Rattle.std.proofs.lemmas.Option.{none-some, same_Some, slice_get_within}
-use Rattle.log_schemes.specs.declared.locals.Locals.TheVariants.{Registers}
 use Rattle.log_schemes.specs.declared.log.Log.{Log}
 use Rattle.machine_events.specs.declared.event.Event.TheVariants.{Crash}
 use Rattle.ido_base.specs.declared.location.Shape.{Shape}
@@ -34,7 +33,7 @@ use Rattle.source_machine.specs.Discipline.{HoldsNames, StateKeeps, ThreadKeeps}
 use Rattle.source_machine.proofs.Public.{held_found, held_there}
 use Rattle.rv64_isa.specs.declared.object.Slot.{Slot}
 use Rattle.machine_model.specs.Machine.{Hart, World, after_crash_of, after_event, durable_point, fresh_hart, happens, phase_after_crash, record_of}
-use Rattle.log_schemes.specs.Schemes.{locals_of, numbers_from}
+use Rattle.log_schemes.specs.Schemes.{numbers_from}
 use Rattle.boundary_code.specs.Boundaries.{is_empty}
 use Rattle.flow_graph.specs.Actions.{FlowState, GraphThread}
 use Rattle.flow_graph.specs.Lockstep.{GraphThreadMatches, Matches, IsOwnNode}
@@ -45,7 +44,6 @@ use Rattle.flow_graph.proofs.Public.{lowered_threads}
 use Rattle.flow_graph.specs.Paths.{naming_of}
 use Rattle.region_attempts.specs.KnownReferences.{AreUnnull, KnownAreUnnull, known_at}
 use Rattle.region_attempts.specs.Origins.{Origin, IsPendingAt}
-use Rattle.region_cutter.specs.LocksAtBoundaries.{ChosenAreLocked}
 use Rattle.variable_words.specs.Variables.{durable_variables, number_of_byte, variables_from}
 use Rattle.log_states.specs.Logs.{Record, HasLog, IsRecord, IsRecorded, nothing_recorded}
 use Rattle.log_states.specs.Machines.{config_of}
@@ -53,7 +51,7 @@ use Rattle.log_states.specs.Stages.{Over, is_committed}
 use Rattle.log_states.proofs.Public.{ends_committed, nothing_is_record}
 use Rattle.thread_code.specs.Plans.{locks_held}
 use Rattle.thread_code.proofs.Public.{has_held}
-use Rattle.recovered_threads.specs.RecordDescriptions.{AllDescribe, Describes}
+use Rattle.recovered_threads.specs.RecordDescriptions.{AllDescribe, DescribesAs}
 use Rattle.recovered_threads.specs.Machines.{RecoversTo}
 use Rattle.recovered_threads.specs.RecoveryStates.{AreGathering, HasRecord}
 use Rattle.recovered_threads.proofs.Public.{crashes_gather, none_where}
@@ -259,8 +257,7 @@ module _ (log : Log) (program : List (List Slot)) (locks : ℕ) (words : List �
 
 -- ---- The state
 
-module _ (locked : ChosenAreLocked) (y : System) (registers : locals_of y.plan.log ≡ Registers) (s : IsSystem y) (words : List ℕ)
-    (shape : HasShape y.plan s.codes words) where
+module _ (y : System) (s : IsSystem y) (words : List ℕ) (shape : HasShape y.plan s.codes words) where
   abbrev x : f.Flat
   x = flat_of y
 
@@ -271,7 +268,7 @@ module _ (locked : ChosenAreLocked) (y : System) (registers : locals_of y.plan.l
   count = thread_count y
 
   of : (n : ℕ) (below : n < count) → IsSaid y.plan (s.codes.each n below) words
-  of n below = said locked y.plan registers s.plan (s.codes.each n below) words
+  of n below = said y.plan s.plan (s.codes.each n below) words
       (subst (λ (k : ℕ). HasLog y.plan.log k ws) (sym (s.codes.number n below)) (shape.logs n below)) (shape.threads n below)
 
   -- ---- Threads
@@ -286,6 +283,9 @@ module _ (locked : ChosenAreLocked) (y : System) (registers : locals_of y.plan.l
   entry : (n : ℕ) → Record
   entry n = pick nothing_recorded n count (λ below. (of n below).entry) (cases_lt n count)
 
+  late : (n : ℕ) → Bool
+  late n = pick false n count (λ below. (of n below).late) (cases_lt n count)
+
   graph_thread_is : (n : ℕ) (below : n < count) → graph_thread n ≡ (of n below).graph_thread
   unfolding graph_thread
   graph_thread_is n below = pick_is _ n count (λ b. (of n b).graph_thread) (cases_lt n count) below
@@ -297,6 +297,10 @@ module _ (locked : ChosenAreLocked) (y : System) (registers : locals_of y.plan.l
   entry_is : (n : ℕ) (below : n < count) → entry n ≡ (of n below).entry
   unfolding entry
   entry_is n below = pick_is _ n count (λ b. (of n b).entry) (cases_lt n count) below
+
+  late_is : (n : ℕ) (below : n < count) → late n ≡ (of n below).late
+  unfolding late
+  late_is n below = pick_is _ n count (λ b. (of n b).late) (cases_lt n count) below
 
   -- ---- Holders
 
@@ -513,14 +517,15 @@ module _ (locked : ChosenAreLocked) (y : System) (registers : locals_of y.plan.l
 
   -- ---- Records
 
-  describes : AllDescribe y.plan s.codes kept entry
+  describes : AllDescribe y.plan s.codes kept late entry
   describes n below =
       let o = of n below in
       let code = s.codes.each n below in
       let number = s.codes.number n below in
-      subst (λ (r : Record). Describes y.plan code kept r) (sym (entry_is n below))
+      subst (λ (l : Bool). DescribesAs y.plan code kept l (entry n)) (sym (late_is n below))
+      (subst (λ (r : Record). DescribesAs y.plan code kept o.late r) (sym (entry_is n below))
       (o.describes kept (ap (slice_get kept.graph_threads) number ∙ graph_thread_there n below)
-      (ap (holds_none holders) number ∙ none_held_is n below))
+      (ap (holds_none holders) number ∙ none_held_is n below)))
 
   recovers : RecoversTo y.plan s.codes kept (after_crash_of y.runs.log y.runs.program y.runs.mutexes words)
   recovers = record {
@@ -534,6 +539,7 @@ module _ (locked : ChosenAreLocked) (y : System) (registers : locals_of y.plan.l
         subst (λ (l : Log). IsRecord l (entry h) × IsRecorded l h (entry h) ws) s.log
         (subst (λ (r : Record). IsRecord y.plan.log r × IsRecorded y.plan.log h r ws) (sym (entry_is h below))
         (o.is_record, subst (λ (k : ℕ). IsRecorded y.plan.log k o.entry ws) (s.codes.number h below) o.is_recorded)));
+    lates = late;
     describe = describes;
   }
 
@@ -553,5 +559,5 @@ module _ (locked : ChosenAreLocked) (y : System) (registers : locals_of y.plan.l
     record { size = shape.size ∙ ap (λ (l : Log). word_count l (thread_count y)) s.log; recovers = recovers; variables = refl },
   )
 
-pub shapes_are_states : ChosenAreLocked → ShapesAreStates
-shapes_are_states locked y registers s words shape = origin locked y registers s words shape
+pub shapes_are_states : ShapesAreStates
+shapes_are_states y s words shape = origin y s words shape

@@ -1,16 +1,16 @@
 -- Words without a past have the record that they say, durably.
-use Rattle.std.proofs.Common.{◌≡◌, refl, ℕ, zero, suc, ◌+◌, ◌*◌, ◌<◌, List, [], ◌∷◌, map, sym, ◌∙◌, subst, arith}
-use Rattle.std.specs.Prelude.{slice_index, ◌^◌, ◌/◌, ◌==◌, ◌≢◌}
+use Rattle.std.proofs.Common.{◌≡◌, refl, ℕ, zero, suc, ◌<◌, List, [], ◌∷◌, map, sym, subst, arith}
+use Rattle.std.specs.Prelude.{slice_index, ◌^◌, ◌==◌}
 use Rattle.std.proofs.lemmas.Bool.{cond-true, eq-eqb}
 use Rattle.log_schemes.specs.declared.log.Log.{Log}
 use Rattle.ido_base.specs.Words.{Word, word_of, word_at, durable_value}
 use Rattle.ido_base.specs.Layout.{word_number}
-use Rattle.log_schemes.specs.Layout.{log_words, point_at, slot_at}
+use Rattle.log_schemes.specs.Layout.{frame_at, log_words, point_at, slot_at}
 use Rattle.rv64_isa.specs.Rows.{read}
-use Rattle.machine_model.specs.Machine.{bank_of, durable_point, record_of, recorded, resumed_registers}
-use Rattle.log_states.specs.Logs.{nothing_recorded, IsInBank, IsKeepable, IsDurable, IsRecorded, HasLog, log_word}
-use Rattle.log_schemes.specs.SchemeFacts.{slot_index}
-use Rattle.log_states.proofs.Public.{banks_read, contains_none, scheme, slot_in_log, some_words}
+use Rattle.machine_model.specs.Machine.{bank_of, durable_at, durable_point, record_of, recorded, resumed_registers}
+use Rattle.log_states.specs.Logs.{nothing_recorded, IsFrameWord, IsInBank, IsKeepable, IsDurable, IsRecorded, HasLog, frame_word, log_word}
+use Rattle.log_schemes.specs.SchemeFacts.{frame_index, slot_index}
+use Rattle.log_states.proofs.Public.{banks_read, contains_none, frame_in_log, frame_inside, scheme, slot_in_log, some_words}
 use Rattle.log_schemes.specs.Schemes.{register_slot}
 
 single : (words : List ℕ) (i : ℕ) → word_at (map word_of words) i ≡ word_of (slice_index words i)
@@ -56,6 +56,12 @@ pub register_small : (log : Log) (thread : ℕ) (words : List Word) → HasLog l
 register_small log thread words has register keepable =
     subst (λ (value : ℕ). value < 2 ^ 64) (sym ((banks_read log).registers words thread register keepable))
     (recorded_small log thread words has (register_slot log register) ((scheme log).apart.register register keepable).exists)
+
+-- and so has a word of its frame
+pub frame_small : (log : Log) (thread : ℕ) (words : List Word) → HasLog log thread words → (word : ℕ) → IsFrameWord log word →
+    durable_at words (frame_at log thread word) < 2 ^ 64
+frame_small log thread words has word is =
+    small_at log thread words has (frame_index word) (frame_inside log word is) (frame_word log thread word) (frame_in_log log thread word)
 
 -- a thread's record by its point
 pub record_none : (log : Log) (words : List Word) (thread : ℕ) → durable_point log words thread ≡ 0 → record_of log words thread ≡ []

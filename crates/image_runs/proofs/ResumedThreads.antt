@@ -1,15 +1,16 @@
 -- The thread of the source that words with the shape describe: it stands at its node, or has not begun.
-use Rattle.std.proofs.Common.{◌≡◌, ◌≢◌, refl, inl, inr, ℕ, zero, suc, ◌*◌, ◌%◌, ◌<◌, List, [], ◌∷◌, length, map, replicate, ap, sym, ◌∙◌}
+use Rattle.std.proofs.Common.{◌≡◌, ◌≢◌, ◌⊎◌, refl, inl, inr, ℕ, zero, suc, ◌*◌, ◌%◌, ◌<◌, ◌≤◌, List, [], ◌∷◌, length, map, replicate, ap, sym, ◌∙◌}
 use Rattle.std.proofs.Common.{subst, arith, Option, Some, None, Bool, true, false}
-use Rattle.std.specs.Prelude.{slice_get, slice_index_or, Contains, is_some, ◌^◌, ◌==◌, ℤ, pos, if◌then◌else◌}
+use Rattle.std.specs.Prelude.{slice_get, slice_index_or, slice_set, Contains, is_some, ◌^◌, ◌==◌, ℤ, pos}
 use Rattle.std.specs.List.{AllZip}
 use Rattle.std.specs.Option.{option_map}
-use Rattle.std.proofs.lemmas.Bool.{true≢false}
+use Rattle.std.proofs.lemmas.Bool.{cases_eq, cond-false, ne_eqb, true≢false}
+use Rattle.std.proofs.lemmas.List.{get_or-set_other, get_or-set_same}
 use Rattle.std.proofs.lemmas.List.Elements.{Contains-append_cases}
-use Rattle.std.proofs.lemmas.Option.{none-some, same_Some, slice_get-map}
+use Rattle.std.proofs.lemmas.Option.{none-some, same_Some, slice_get-get_or, slice_get-map, slice_get_within}
+use Rattle.ido_base.specs.declared.location.Location.{Location}
 use Rattle.ido_base.specs.Layout.{variable_at, word_number}
-use Rattle.log_schemes.specs.Layout.{frame_at, point_at}
-use Rattle.log_schemes.specs.declared.locals.Locals.TheVariants.{Registers}
+use Rattle.log_schemes.specs.Layout.{point_at}
 use Rattle.ido_base.specs.Locks.{holds_none}
 use Rattle.ido_base.specs.Words.{Word, word_of}
 use Rattle.ido_ints.specs.declared.kinds.Kind.{Kind}
@@ -28,6 +29,8 @@ use Rattle.c_tree.specs.References.{IsFlatThreadReferring, IsLocalReferring, var
 use Rattle.c_tree.specs.LockDiscipline.{key_locals}
 use Rattle.c_tree.specs.Values.{lock_number}
 use Rattle.c_tree.specs.WellFormed.{AreFlatStatements, elements_in, shape_of}
+use Rattle.c_tree.specs.Ranges.{elements_of}
+use Rattle.c_ranges.specs.Laws.{IsNullOrReference}
 use Rattle.c_ranges.specs.RunInvariants.{IsReferringThread, IsStoreInRange, IsThreadOf, RefersSo}
 use Rattle.c_ranges.proofs.Public.{begins_so}
 use Rattle.source_machine.specs.Discipline.{HoldsNames, KeepsLeft}
@@ -35,54 +38,62 @@ use Rattle.source_machine.specs.ElementLocks.{element_lock}
 use Rattle.source_machine.proofs.Public.{keep_opened_all}
 use Rattle.memory_layout.specs.Roles.{pending_address, pending_value}
 use Rattle.rv64_isa.specs.Rows.{read}
-use Rattle.machine_model.specs.Machine.{bank_of, durable_point, recorded, record_of, resumed_registers}
-use Rattle.boundary_code.specs.Boundaries.{is_empty}
-use Rattle.log_schemes.specs.Schemes.{kept_locks, locals_of, told}
+use Rattle.machine_model.specs.Machine.{bank_of, durable_point, recorded, record_of, resumed_registers, resume_of}
+use Rattle.boundary_code.specs.Boundaries.{IsOnSide, is_empty}
+use Rattle.log_schemes.specs.Schemes.{kept_locks, told}
 use Rattle.variable_words.proofs.Public.{address_is, element_whole, well_formed_placed}
 use Rattle.flow_graph.specs.Actions.{FlowState, GraphThread, Seen, graph_thread_start, seen_by}
+use Rattle.flow_graph.specs.IdempotentCuts.{IsEdge, IsStoreNode}
 use Rattle.flow_graph.specs.Liveness.{NodeAt, IsLive}
 use Rattle.flow_graph.specs.Lockstep.{GraphThreadMatches, Standing, IsOwnNode}
-use Rattle.flow_graph.specs.Lowering.{lowered}
-use Rattle.flow_graph.specs.Nodes.{Action, Eval, Store, Test, Lock, Unlock, End, Graph, Node}
-use Rattle.flow_graph.proofs.Public.{ActionLeads, Tests, all_at, begins_lockstep, chooses, held_keys_stay, held_names_it, nodes_at, repeats, good_start}
+use Rattle.flow_graph.specs.Lowering.{lowered, threads_nodes}
+use Rattle.flow_graph.specs.Nodes.{Action, Eval, Store, Test, Lock, Unlock, End, Graph, Node, successors}
+use Rattle.flow_graph.proofs.Public.{ActionLeads, ShapedAs, Tests, all_at, begins_lockstep, chooses, held_keys_stay, held_names_it, node_shaped, nodes_at}
+use Rattle.flow_graph.proofs.Public.{repeats}
+use Rattle.flow_graph.proofs.Public.{good_start}
 use Rattle.flow_graph.specs.HeldKeys.{names_in}
 use Rattle.flow_graph.specs.Paths.{naming_of}
 use Rattle.region_attempts.specs.KnownReferences.{AreUnnull, known_at}
 use Rattle.region_attempts.specs.Origins.{IsPendingAt}
 use Rattle.region_attempts.proofs.Public.{none_known}
-use Rattle.region_cutter.specs.LocksAtBoundaries.{ChosenAreLocked}
-use Rattle.log_states.specs.Logs.{Record, KeepsForWrite, IsKeepable, IsRecord, IsDurable, IsRecorded, HasLog, bank_word, nothing_recorded, slot_in}
-use Rattle.log_states.specs.Logs.{slots_of, value_of}
+use Rattle.log_states.specs.Logs.{Record, KeepsForWrite, IsKeepable, IsRecord, IsDurable, IsRecorded, HasLog, bank_word, frame_word, framed_of}
+use Rattle.log_states.specs.Logs.{nothing_recorded, slot_in, slots_of, value_of}
 use Rattle.log_schemes.specs.SchemeFacts.{AreLoggable}
 use Rattle.log_states.specs.BanksRead.{HasKept}
-use Rattle.log_states.specs.Laws.{ResumesRecord}
-use Rattle.log_states.proofs.Public.{banks_read, contains_none, lock_value, log_facts, nothing_is_record, register_value, slot_cases}
-use Rattle.thread_code.specs.Plans.{Plan, Thread, IsPlan, IsKept, IsKeptBefore, of_address, of_entry, of_local, of_number, of_value, of_word}
+use Rattle.log_states.proofs.Public.{banks_read, contains_first, is_tellable, log_facts, nothing_is_record, pair_value, register_value, slot_cases}
+use Rattle.thread_code.specs.Plans.{Plan, Thread, IsLogged, IsNodeOf, IsPlan, IsKept, IsKeptBefore, of_address, of_entry, of_local, of_number, of_value}
+use Rattle.thread_code.specs.Plans.{of_word}
 use Rattle.thread_code.specs.Plans.{names_in as keys_of}
 use Rattle.thread_code.specs.NodeCodeEffects.{bytes_written}
 use Rattle.thread_code.specs.Plans.{held_names_before, locks_before, set_before}
 use Rattle.thread_code.proofs.Public.{numbers_some}
-use Rattle.thread_code.specs.RegistersAtNodes.{HasPending, IsPendingIn, Enters, LogView, frame_loads, to_enter}
-use Rattle.recovered_threads.specs.RecordDescriptions.{Code, ComesNext, CountsOn, Describes, MayGoOn, NodePlace, between, inside, registers_kept}
-use Rattle.recovered_threads.specs.RecordDescriptions.{the_core, the_entry}
+use Rattle.thread_code.specs.RegistersAtNodes.{HasPending, IsPendingIn, IsReady, Enters, LogView, by_assignment, by_entry, frame_loads, to_assign, to_enter}
+use Rattle.recovered_threads.specs.RecordDescriptions.{AreCounted, Code, ComesNext, CountsOn, DescribesAs, MayGoOn, NodePlace, ResumesAt}
+use Rattle.recovered_threads.specs.RecordDescriptions.{between, inside, registers_kept, the_core, the_entry, words_in}
+use Rattle.recovered_threads.proofs.Public.{words_are_listed, words_exist}
 use Rattle.image_checks.specs.Checks.{IsElementOf, IsReferenceWord}
-use Rattle.flat_compile.specs.ResumePlaces.{refers_in}
+use Rattle.flat_compile.specs.ResumePlaces.{knowns_before, refers_in}
 use Rattle.image_checks.specs.Logs.{AreOnce}
 use Rattle.image_checks.proofs.Public.{IsGuardedStore, guarded_store, key_is_held}
-use Rattle.image_runs.specs.Shapes.{GoesOnAt, HasThreadShape, idle, resumed_view, resumes}
+use Rattle.image_runs.specs.Shapes.{GoesOnAt, HasThreadShape, StoresAssigned, idle, resumed, resumed_view, resumes}
 use Rattle.image_runs.proofs.GuardedElements.{guards_element}
 use Rattle.image_checks.proofs.Public.{knowns_are, refers_are, zip_there}
 use Rattle.image_runs.proofs.HeldAtNodes.{all, node_is, lowered_is, stands}
 use Rattle.image_runs.proofs.HeldAtNodes.{keeps, long, left_is, left_known, left_refers, sets, resumed_hold}
-use Rattle.image_checks.proofs.Public.{AreApart, apart_by, live_same, locks_are, locks_same, loggable, no_frame}
+use Rattle.image_runs.proofs.HeldAtNodes.{IsWrite, at_core, chosen_write, no_store, free_after_assign, free_writes_none, kind_of_assigned, of_element}
+use Rattle.image_runs.proofs.HeldAtNodes.{known_after_assign}
+use Rattle.image_runs.proofs.HeldAtNodes.{of_local as of_assignment, own_after, set_after_assign}
+use Rattle.image_checks.proofs.Public.{AreApart, apart_by, live_same, counted_beside, locks_are, locks_same, loggable, one_assigned}
 use Rattle.image_runs.proofs.LeftStatements.{opened_all_left}
 use Rattle.image_runs.proofs.MendedNumbers.{mended_from, mended_hold, mended_none, mended_refer, mended_stays, mended_unnull}
-use Rattle.image_runs.proofs.RecordedWords.{durable_word, nothing_is_recorded, point_small, register_small, record_none}
+use Rattle.image_runs.proofs.RecordedWords.{durable_word, frame_small, nothing_is_recorded, point_small, register_small, record_none}
 use Rattle.image_checks.proofs.Public.{IsLong, refers_by, variable_long}
-use Rattle.image_runs.proofs.ResumedLocals.{address_keepable, counts_on, local_keepable, unframed, unlogged, untold, value_keepable}
+use Rattle.image_runs.proofs.ResumedLocals.{address_keepable, local_keepable, no_register, value_keepable}
 use Rattle.image_runs.proofs.SureReferences.{left_sure}
 use Rattle.image_checks.proofs.Public.{StoresAs, StoresElements, stores_elements}
-use Rattle.expr_code.specs.EvaluationCode.{home_of, HomeCarries}
+use Rattle.expr_code.proofs.Public.{bytes_small}
+use Rattle.expr_code.specs.declared.home.Home.{Home}
+use Rattle.expr_code.specs.EvaluationCode.{home_of, HomeCarries, IsFramed}
 
 -- ---- Numbers in words
 
@@ -131,12 +142,12 @@ as_long [] (z ∷ ls) h = absurd h
 as_long (k ∷ ks) [] h = absurd h
 as_long (k ∷ ks) (z ∷ ls) h = ap suc (as_long ks ls h.1)
 
-abbrev no_word : Bool → List ℕ
-no_word none = if none then [] else []
-
-no_words : (none : Bool) (word : ℕ) → Contains (no_word none) word → ⊥
-no_words true word c = contains_none word c
-no_words false word c = contains_none word c
+set_held : (ks : List Kind) (ls : List ℤ) (i : ℕ) (k : Kind) (z : ℤ) → AllZip Holds ks ls → slice_get ks i ≡ Some k → Holds k z →
+    AllZip Holds ks (slice_set ls i z)
+set_held [] ls i k z h there held = absurd (none-some k there)
+set_held (j ∷ ks) [] i k z h there held = absurd h
+set_held (j ∷ ks) (l ∷ ls) zero k z h there held = (subst (λ (m : Kind). Holds m z) (sym (same_Some j k there)) held, h.1)
+set_held (j ∷ ks) (l ∷ ls) (suc i) k z h there held = (h.0, set_held ks ls i k z h.1 there held)
 
 -- ---- What a thread's log says of it
 
@@ -162,15 +173,48 @@ pub record IsSaid (p : Plan) (code : Code p) (words : List ℕ) : Type 0 where
       thread.pending ≡ Some q → slice_get holders (element_lock p.flat.variables q.variable q.element) ≡ Some (Some code.thread.number)
   -- its node writes where its pending store goes, by what its keys name
   pub stored : (q : Pending) → graph_thread.pending ≡ Some q → IsPendingAt p.flat (naming_of p.flat code.of.text graph_thread.locals) graph_thread.at q
+  -- whether it is past an assignment that its record tells
+  pub late : Bool
   pub entry : Record
   pub is_record : IsRecord p.log entry
   pub is_recorded : IsRecorded p.log code.thread.number entry (map word_of words)
   pub describes : (kept : FlowState) → slice_get kept.graph_threads code.thread.number ≡ Some graph_thread →
       holds_none kept.holders code.thread.number ≡ is_empty (map (lock_number thread.locals) (held_names (lock_names p.flat code.of.text) set)) →
-      Describes p code kept entry
+      DescribesAs p code kept late entry
 
-module _ (locked : ChosenAreLocked) (p : Plan) (in_registers : locals_of p.log ≡ Registers) (plan : IsPlan p) (code : Code p) (words : List ℕ)
-    (log : HasLog p.log code.thread.number (map word_of words)) where
+-- numbers with which a thread can stand at the node, where its bank keeps these locks: those of some locals are right, and so are those of the live ones
+record IsStood (p : Plan) (code : Code p) (words : List Word) (node : ℕ) (Counts : (local : ℕ) → Type 0) : Type 0 where
+  own : IsNodeOf code.thread node
+  some : held_names_before p code.thread node ≢ []
+  numbers : List ℤ
+  held : AllZip Holds code.thread.kinds numbers
+  live : (local : ℕ) → IsLive p.graph local node → Counts local
+  refer : (local array : ℕ) → slice_get (refers_in p code.thread) local ≡ Some (Some array) → Counts local →
+      IsNullOrReference (elements_of p.flat.variables array) (slice_index_or numbers local (pos 0))
+  unnull : (local array : ℕ) → slice_get (refers_in p code.thread) local ≡ Some (Some array) → Counts local →
+      is_among (knowns_before p code.thread node) local ≡ true → slice_index_or numbers local (pos 0) ≢ pos 0
+  locks : HasKept p.log words code.thread.number (locks_before p code.thread numbers node)
+  once : AreOnce (locks_before p code.thread numbers node)
+  pending : (is : Node) (location : Location) → NodeAt p.graph node is → is.writes ≡ Some location →
+      IsElementOf p.flat.variables (naming_of p.flat code.of.text numbers) location (read (resumed p code words) pending_address)
+  value : (is : Node) (location : Location) → NodeAt p.graph node is → is.writes ≡ Some location →
+      IsReferenceWord p.flat.variables (variable_refers p.flat.variables location.variable) (read (resumed p code words) pending_value)
+
+none_in : (xs : List ℕ) → ((x : ℕ) → Contains xs x → ⊥) → xs ≡ []
+none_in [] none = refl
+none_in (x ∷ xs) none = absurd (none x (contains_first x xs))
+
+-- how many bytes are told
+few_written : (a : Action) (bytes : ℕ) → bytes_written a ≡ Some bytes → bytes ≤ 8
+few_written (Eval target value next) bytes e = let same = same_Some 8 bytes e in omega (arith, same)
+few_written (Store variable kind next) bytes e =
+    let same = same_Some (bytes_of kind) bytes e in let small = bytes_small kind in omega (arith, same, small)
+few_written (Test condition to other) bytes e = absurd (none-some bytes e)
+few_written (Lock lock next) bytes e = absurd (none-some bytes e)
+few_written (Unlock lock next) bytes e = absurd (none-some bytes e)
+few_written End bytes e = absurd (none-some bytes e)
+
+module _ (p : Plan) (plan : IsPlan p) (code : Code p) (words : List ℕ) (log : HasLog p.log code.thread.number (map word_of words)) where
   abbrev ws : List Word
   ws = map word_of words
 
@@ -239,6 +283,7 @@ module _ (locked : ChosenAreLocked) (p : Plan) (in_registers : locals_of p.log �
       held = subst (λ (ks : List Kind). AllZip Holds ks start.locals) (sym code.of.kinds) (zeros_hold code.of.text.locals);
       pending = λ holders own q some. absurd (none-some q some);
       stored = λ q some. absurd (none-some q some);
+      late = false;
       entry = nothing_recorded;
       is_record = nothing_is_record p.log;
       is_recorded = nothing_is_recorded p.log n words none;
@@ -247,7 +292,7 @@ module _ (locked : ChosenAreLocked) (p : Plan) (in_registers : locals_of p.log �
 
   -- ---- At a node
 
-  module _ (node : ℕ) (place : NodePlace) (some : durable_point p.log ws n ≢ 0) (g : GoesOnAt p code ws node place) where
+  module _ (node : ℕ) (Counts : (local : ℕ) → Type 0) (some : durable_point p.log ws n ≢ 0) (g : IsStood p code ws node Counts) where
     abbrev registers : List ℕ
     registers = resumed_registers p.log ws n
 
@@ -287,51 +332,35 @@ module _ (locked : ChosenAreLocked) (p : Plan) (in_registers : locals_of p.log �
     locals_unnull : AreUnnull refers known locals
     locals_unnull = mended_unnull x.variables known t.kinds refers g.numbers own_refers g.held
 
-    abbrev view : LogView
-    view = resumed_view p code ws
-
-    -- the thread counts on those that are live
-    abbrev Alive : (local : ℕ) → Type 0
-    Alive local = IsLive p.graph local node
-
-    counted : (local : ℕ) → Alive local → CountsOn p t node place local
-    counted local live = counts_on p in_registers t node place local live
-
-    -- a live one is right already
-    stays : (local : ℕ) → IsLive p.graph local node → slice_index_or g.numbers local (pos 0) ≡ slice_index_or locals local (pos 0)
-    stays local live = by (slice_get refers local) refl
+    -- one that is right stays
+    stays : (local : ℕ) → Counts local → slice_index_or g.numbers local (pos 0) ≡ slice_index_or locals local (pos 0)
+    stays local counted = by (slice_get refers local) refl
       where
         array_there : (array : ℕ) → slice_get refers local ≡ Some (Some array) → slice_get (refers_in p t) local ≡ Some (Some array)
         array_there array e = ap (λ (rs : List (Option ℕ)). slice_get rs local) (refers_are p t code.of) ∙ e
 
         right : (r : Option ℕ) → slice_get refers local ≡ Some r → RefersSo x.variables r (slice_index_or g.numbers local (pos 0))
         right None e = tt
-        right (Some array) e = g.refer local array (array_there array e) (counted local live)
+        right (Some array) e = g.refer local array (array_there array e) counted
 
         by : (o : Option (Option ℕ)) → slice_get refers local ≡ o → slice_index_or g.numbers local (pos 0) ≡ slice_index_or locals local (pos 0)
         by None e = sym (mended_none x.variables known t.kinds refers g.numbers own_refers g.held local e)
         by (Some r) e =
             sym (mended_stays x.variables known t.kinds refers g.numbers own_refers g.held local r e (right r e)
             (λ array refers_so among.
-            g.unnull local array (array_there array (e ∙ ap (λ (o : Option ℕ). Some o) refers_so)) (counted local live)
+            g.unnull local array (array_there array (e ∙ ap (λ (o : Option ℕ). Some o) refers_so)) counted
             (ap (λ (ks : List ℕ). is_among ks local) (knowns_are p t code.of node) ∙ among)))
-
-    carried : (local : ℕ) (k : Kind) → slice_get t.kinds local ≡ Some k → IsLive p.graph local node →
-        HomeCarries (frame_loads view) registers (home_of t.locals local) (typed k (slice_index_or locals local (pos 0)))
-    carried local k there live =
-        subst (λ (z : ℤ). HomeCarries (frame_loads view) registers (home_of t.locals local) (typed k z)) (stays local live)
-        (g.locals local k there (counted local live))
 
     -- ---- Locks and keys
 
     abbrev own_locks : List ℕ
     own_locks = locks_before p t locals node
 
-    keys : (k : ℕ) (z : LockName) → slice_get (keys_of p t) k ≡ Some z → holds set k ≡ true → (local : ℕ) → Contains (key_locals z) local → Alive local
-    keys k z there held local c = plan.keys_live t code.of node g.own k local z there held c
+    keys : (k : ℕ) (z : LockName) → slice_get (keys_of p t) k ≡ Some z → holds set k ≡ true → (local : ℕ) → Contains (key_locals z) local → Counts local
+    keys k z there held local c = g.live local (plan.keys_live t code.of node g.own k local z there held c)
 
     same_locks : locks_before p t g.numbers node ≡ own_locks
-    same_locks = locks_same p plan t code.of Alive g.numbers locals node keys stays
+    same_locks = locks_same p plan t code.of Counts g.numbers locals node keys stays
 
     -- a held key names one element, by these numbers and by those
     key_there : (variable key element : ℕ) → holds set key ≡ true → names_in x.variables own_names g.numbers variable key ≡ Some element →
@@ -339,7 +368,7 @@ module _ (locked : ChosenAreLocked) (p : Plan) (in_registers : locals_of p.log �
     key_there variable key element held named =
         sym (held_names_it x.variables own_names set locals variable key held)
         ∙ (held_keys_stay x.variables own_names set locals g.numbers variable key
-        (λ k y there own. sym (live_same p plan t code.of Alive g.numbers locals node keys stays k y there own))
+        (λ k y there own. sym (live_same p plan t code.of Counts g.numbers locals node keys stays k y there own))
         ∙ (held_names_it x.variables own_names set g.numbers variable key held ∙ named))
 
     -- ---- The pending store
@@ -490,7 +519,7 @@ module _ (locked : ChosenAreLocked) (p : Plan) (in_registers : locals_of p.log �
       pending = owed.ranged;
     }
 
-    -- ---- The record
+    -- ---- What its record has to be
 
     are_loggable : AreLoggable p.log own_locks
     are_loggable = loggable p plan t code.of locals locals_hold node
@@ -498,106 +527,19 @@ module _ (locked : ChosenAreLocked) (p : Plan) (in_registers : locals_of p.log �
     keeps_locks : HasKept p.log ws n own_locks
     keeps_locks = subst (λ (ls : List ℕ). HasKept p.log ws n ls) same_locks g.locks
 
-    -- what it is told of the write that comes
-    abbrev written_at : NodePlace → Option ℕ
-    written_at the_entry = None
-    written_at the_core = bytes_written is.action
-
-    comes : (at : NodePlace) → ComesNext p node at (written_at at)
-    comes the_entry = refl
-    comes the_core = λ other there. ap (λ (z : Node). bytes_written z.action) (same_Some is other (sym here ∙ there))
-
-    abbrev entry : Record
-    entry = record {
-      point = durable_point p.log ws n;
-      locks = own_locks;
-      live = registers_kept code.is.places node place;
-      registers = registers;
-      written = written_at place;
-      framed = [];
-      frame = λ word. 0;
-    }
-
-    kept_keepable : (slot : ℕ) → IsKept p t node slot → IsKeepable p.log slot
-    kept_keepable slot (of_local local k own there live at) = local_keepable p in_registers plan t code.of local k own there at
-    kept_keepable slot (of_address own) = address_keepable p.log
-    kept_keepable slot (of_value own) = value_keepable p.log
-
-    before_keepable : (slot : ℕ) → IsKeptBefore p t node slot → IsKeepable p.log slot
-    before_keepable slot (of_entry _ kept) = kept_keepable slot kept
-    before_keepable slot (of_word logged) = address_keepable p.log
-    before_keepable slot (of_number logged) = value_keepable p.log
-
-    keepable_at : (at : NodePlace) (slot : ℕ) → Contains (registers_kept code.is.places node at) slot → IsKeepable p.log slot
-    keepable_at the_entry slot c = kept_keepable slot ((code.is.live node g.own slot).0 c)
-    keepable_at the_core slot c = before_keepable slot ((code.is.kept node g.own slot).0 c)
-
-    live_keepable : (slot : ℕ) → Contains entry.live slot → IsKeepable p.log slot
-    live_keepable slot c = keepable_at place slot c
-
-    for_write : KeepsForWrite p.log entry.written entry.live
-    for_write framed = absurd (no_frame (locals_of p.log) in_registers framed)
-
-    is_record : IsRecord p.log entry
-    is_record = record {
-      point = point_small p.log n ws log;
-      locks = are_loggable;
-      live = live_keepable;
-      registers = λ slot c. register_small p.log n ws log slot (live_keepable slot c);
-      told = λ pair c. absurd (untold p in_registers entry.written pair c);
-      for_write = for_write;
-      framed = λ word c. absurd (no_words (entry.point == 0) word c);
-      frame = λ word c. absurd (no_words (entry.point == 0) word c);
-    }
-
-    slot_is : (slot : ℕ) → Contains (slots_of p.log entry) slot → recorded p.log ws n slot ≡ value_of p.log entry slot
-    slot_is slot c = elim (slot_cases p.log entry slot c) [
-      | inl h ↦
-          subst (λ (k : ℕ). recorded p.log ws n k ≡ value_of p.log entry k) (sym h.is)
-          (elim (Contains-append_cases (kept_locks p.log own_locks) (told p.log entry.written) h.pair h.own) [
-            | inl lock ↦ keeps_locks h.pair lock ∙ sym (lock_value p.log entry are_loggable live_keepable for_write h.pair lock)
-            | inr write ↦ absurd (untold p in_registers entry.written h.pair write)
-          ])
-      | inr h ↦
-          subst (λ (k : ℕ). recorded p.log ws n k ≡ value_of p.log entry k) (sym h.is)
-          (sym ((banks_read p.log).registers ws n h.register (live_keepable h.register h.own))
-          ∙ sym (register_value p.log entry are_loggable live_keepable for_write h.register h.own))
-    ]
-
-    is_recorded : IsRecorded p.log n entry ws
-    is_recorded = record {
-      point = durable_word words (word_number (point_at p.log n));
-      bank = λ slot c.
-          subst (λ (v : ℕ). IsDurable (slot_in p.log ws n entry slot) v) (slot_is slot c) (durable_word words (bank_word p.log n (bank_of entry.point) slot));
-      frame = λ word c. absurd (no_words (entry.point == 0) word c);
-    }
-
-    resumed_record : ResumesRecord p.log n entry ws
-    resumed_record = log_facts.registers_resumed.between p.log n entry ws is_record is_recorded
-
-    enters : (kept : FlowState) → Enters p t node (seen_by kept graph_thread) view registers
-    enters kept = record {
-      at_side = resumed_record.side.registers;
-      count = as_long t.kinds locals locals_hold;
-      locals = carried;
-      pending = λ other there.
-          let same : is ≡ other = same_Some is other (sym here ∙ there) in
-          subst (λ (z : Node). IsPendingIn p z.action (seen_by kept graph_thread) registers) same (owed.enters (seen_by kept graph_thread) refl);
-    }
-
-    may_go_on : (kept : FlowState) (at : NodePlace) → MayGoOn p t node at (seen_by kept graph_thread) view (pos 0) registers
-    may_go_on kept the_entry = enters kept
-    may_go_on kept the_core = (
-      to_enter (unlogged p in_registers t node) (enters kept),
-      λ other local number next there logged does. absurd (unlogged p in_registers t node logged),
-    )
-
     not_empty : (ls : List ℕ) → ls ≢ [] → is_empty ls ≡ false
     not_empty [] other = absurd (other refl)
     not_empty (l ∷ ls) other = refl
 
-    said_inside : IsSaid p code words
-    said_inside = record {
+    none_free : is_empty (map (lock_number locals) (held_names own_names set)) ≡ false
+    none_free =
+        not_empty (map (lock_number locals) (held_names own_names set))
+        (λ none. numbers_some locals (held_names_before p t node) g.some (locks_are p plan t code.of locals node ∙ none))
+
+    said_by : (late : Bool) (entry : Record) → IsRecord p.log entry → IsRecorded p.log n entry ws →
+        ((kept : FlowState) → slice_get kept.graph_threads n ≡ Some graph_thread → holds_none kept.holders n ≡ false → DescribesAs p code kept late entry) →
+        IsSaid p code words
+    said_by late entry is_record is_recorded describes = record {
       graph_thread = graph_thread;
       thread = thread;
       matches = matches;
@@ -622,15 +564,232 @@ module _ (locked : ChosenAreLocked) (p : Plan) (in_registers : locals_of p.log �
       held = locals_hold;
       pending = owed.guarded;
       stored = owed.stored;
+      late = late;
       entry = entry;
       is_record = is_record;
       is_recorded = is_recorded;
-      describes = λ kept there holding.
-          inside (holding ∙ not_empty (map (lock_number locals) (held_names own_names set))
-          (λ none.
-          numbers_some locals (held_names_before p t node) (resumed_hold locked p in_registers plan code node place _ g.own g.resumes)
-          (locks_are p plan t code.of locals node ∙ none))) (record {
-            graph_thread = graph_thread;
+      describes = λ kept there holding. describes kept there (holding ∙ none_free);
+    }
+
+  -- ---- The record of where it is resumed
+
+  module _ (node : ℕ) (place : NodePlace) (some : durable_point p.log ws n ≢ 0) (g : GoesOnAt p code ws node place) where
+    abbrev view : LogView
+    view = resumed_view p code ws
+
+    abbrev own_registers : List ℕ
+    own_registers = resumed_registers p.log ws n
+
+    abbrev own_is : Node
+    own_is = (node_is p plan t code.of node g.own).0
+
+    abbrev own_here : NodeAt p.graph node own_is
+    own_here = (node_is p plan t code.of node g.own).1
+
+    -- what it is told of the write that comes
+    abbrev written_at : NodePlace → Option ℕ
+    written_at the_entry = None
+    written_at the_core = bytes_written own_is.action
+
+    comes : (at : NodePlace) → ComesNext p node at (written_at at)
+    comes the_entry = refl
+    comes the_core = λ other there. ap (λ (z : Node). bytes_written z.action) (same_Some own_is other (sym own_here ∙ there))
+
+    tellable : (at : NodePlace) (bytes : ℕ) → written_at at ≡ Some bytes → bytes ≤ 8
+    tellable the_entry bytes e = absurd (none-some bytes e)
+    tellable the_core bytes e = few_written own_is.action bytes e
+
+    -- the words on which it counts
+    listed : (counted : List ℕ) × AreCounted p t node place counted
+    listed = words_are_listed p t node place plan code.of
+
+    abbrev own_entry : (locks : List ℕ) → Record
+    own_entry locks = record {
+      point = durable_point p.log ws n;
+      locks = locks;
+      live = registers_kept code.is.places node place;
+      registers = own_registers;
+      written = written_at place;
+      framed = listed.0;
+      frame = λ word. words_in p.log n view word;
+    }
+
+    kept_keepable : (slot : ℕ) → IsKept p t node slot → IsKeepable p.log slot
+    kept_keepable slot (of_local local k own there live at) = local_keepable p plan t code.of local k own there at
+    kept_keepable slot (of_address own) = address_keepable p.log
+    kept_keepable slot (of_value own) = value_keepable p.log
+
+    before_keepable : (slot : ℕ) → IsKeptBefore p t node slot → IsKeepable p.log slot
+    before_keepable slot (of_entry _ kept) = kept_keepable slot kept
+    before_keepable slot (of_word logged) = address_keepable p.log
+    before_keepable slot (of_number logged) = value_keepable p.log
+
+    live_keepable : (slot : ℕ) → Contains (registers_kept code.is.places node place) slot → IsKeepable p.log slot
+    live_keepable slot c = at place c
+      where
+        at : (z : NodePlace) → Contains (registers_kept code.is.places node z) slot → IsKeepable p.log slot
+        at the_entry c = kept_keepable slot ((code.is.live node g.own slot).0 c)
+        at the_core c = before_keepable slot ((code.is.kept node g.own slot).0 c)
+
+    -- a write comes past a boundary
+    some_written : IsWrite p plan code node → bytes_written own_is.action ≡ None → ⊥
+    some_written (of_element is location at writes) none = by own_is.action refl
+      where
+        writes_here : own_is.writes ≡ Some location
+        writes_here = ap (λ (z : Node). z.writes) (same_Some own_is is (sym own_here ∙ at)) ∙ writes
+
+        here : slice_get (threads_nodes x x.threads 0) node ≡ Some own_is
+        here = nodes_at x node own_is (lowered_is p plan t code.of node g.own)
+
+        shaped : (a : Action) → own_is.action ≡ a → ShapedAs (threads_nodes x x.threads 0) own_is a
+        shaped a does = subst (λ (z : Action). ShapedAs (threads_nodes x x.threads 0) own_is z) does (node_shaped x node own_is here)
+
+        unwritten : own_is.writes ≡ None → ⊥
+        unwritten e = none-some location (sym e ∙ writes_here)
+
+        by : (a : Action) → own_is.action ≡ a → ⊥
+        by (Eval target value next) does = unwritten (shaped (Eval target value next) does).1.writes
+        by (Store variable kind next) does = none-some (bytes_of kind) (sym none ∙ ap bytes_written does)
+        by (Test condition to other) does = unwritten (shaped (Test condition to other) does).1.writes
+        by (Lock lock next) does = unwritten (shaped (Lock lock next) does).1
+        by (Unlock lock next) does = unwritten (shaped (Unlock lock next) does).1
+        by End does = unwritten (shaped End does).1
+    some_written (of_assignment logged) none =
+        let same : own_is ≡ logged.assigns.is = same_Some own_is logged.assigns.is (sym own_here ∙ logged.assigns.at) in
+        none-some 8 (sym none ∙ (ap (λ (z : Node). bytes_written z.action) same ∙ ap bytes_written logged.assigns.action))
+
+    for_write : KeepsForWrite p.log (written_at place) (registers_kept code.is.places node place)
+    for_write framed none = at place g.resumes none
+      where
+        kept_none : (register : ℕ) → IsKept p t node register → (IsStoreNode p.graph node → ⊥) → ⊥
+        kept_none _ (of_local local k register there live home) free = no_register p plan t code.of framed local k register there home
+        kept_none _ (of_address own) free = free own
+        kept_none _ (of_value own) free = free own
+
+        at : (z : NodePlace) → ResumesAt p code node z (resume_of (durable_point p.log ws n)) → written_at z ≡ None → registers_kept code.is.places node z ≡ []
+        at the_entry there none =
+            none_in (code.is.places.live node)
+            (λ register c. kept_none register ((code.is.live node g.own register).0 c) (no_store p plan code node _ there))
+        at the_core there none = absurd (some_written (chosen_write p plan code node g.own (at_core p code node _ there).0) none)
+
+    counted_in : (locks : List ℕ) (word : ℕ) → Contains (framed_of (own_entry locks)) word → Contains listed.0 word
+    counted_in locks word c =
+        subst (λ (counted : List ℕ). Contains counted word)
+        (cond-false (durable_point p.log ws n == 0) [] listed.0 (ne_eqb (durable_point p.log ws n) 0 some)) c
+
+    is_record : (locks : List ℕ) → AreLoggable p.log locks → IsRecord p.log (own_entry locks)
+    is_record locks fit = record {
+      point = point_small p.log n ws log;
+      locks = fit;
+      live = live_keepable;
+      registers = λ slot c. register_small p.log n ws log slot (live_keepable slot c);
+      told = is_tellable p.log (written_at place) (tellable place);
+      for_write = for_write;
+      framed = λ word c. words_exist p t node place word plan code.of ((listed.1 word).0 (counted_in locks word c));
+      frame = λ word c.
+          frame_small p.log n ws log word (words_exist p t node place word plan code.of ((listed.1 word).0 (counted_in locks word c)));
+    }
+
+    module _ (locks : List ℕ) (fit : AreLoggable p.log locks) (keeps : HasKept p.log ws n locks) where
+      slot_is : (slot : ℕ) → Contains (slots_of p.log (own_entry locks)) slot → recorded p.log ws n slot ≡ value_of p.log (own_entry locks) slot
+      slot_is slot c =
+          let r = own_entry locks in
+          elim (slot_cases p.log r slot c) [
+            | inl h ↦
+                subst (λ (k : ℕ). recorded p.log ws n k ≡ value_of p.log r k) (sym h.is)
+                (elim (Contains-append_cases (kept_locks p.log locks) (told p.log (written_at place)) h.pair h.own) [
+                  | inl lock ↦ keeps h.pair lock ∙ sym (pair_value p.log r fit live_keepable for_write h.pair h.own)
+                  | inr write ↦ g.told (written_at place) (comes place) h.pair write ∙ sym (pair_value p.log r fit live_keepable for_write h.pair h.own)
+                ])
+            | inr h ↦
+                subst (λ (k : ℕ). recorded p.log ws n k ≡ value_of p.log r k) (sym h.is)
+                (sym ((banks_read p.log).registers ws n h.register (live_keepable h.register h.own))
+                ∙ sym (register_value p.log r fit live_keepable for_write h.register h.own))
+          ]
+
+      is_recorded : IsRecorded p.log n (own_entry locks) ws
+      is_recorded = record {
+        point = durable_word words (word_number (point_at p.log n));
+        bank = λ slot c.
+            subst (λ (v : ℕ). IsDurable (slot_in p.log ws n (own_entry locks) slot) v) (slot_is slot c)
+            (durable_word words (bank_word p.log n (bank_of (durable_point p.log ws n)) slot));
+        frame = λ word c. durable_word words (frame_word p.log n word);
+      }
+
+      on_side : IsOnSide p.log view.side own_registers
+      on_side = (log_facts.registers_resumed.between p.log n (own_entry locks) ws (is_record locks fit) is_recorded).side.registers
+
+    -- ---- Where it isn't past an assignment
+
+    module _ (unlogged : ¬ (IsLogged p t node) ⊎ (place ≡ the_entry)) where
+      live_counted : (local : ℕ) → IsLive p.graph local node → CountsOn p t node place local
+      live_counted local live = by place refl
+        where
+          by : (z : NodePlace) → place ≡ z → CountsOn p t node z local
+          by the_entry e = live
+          by the_core e = elim unlogged [
+            | inl none ↦ by_entry local none live
+            | inr entry ↦ (let both : the_core ≡ the_entry = sym e ∙ entry in absurd (let z : ⊥ = cc in z))
+          ]
+
+      abbrev stood : IsStood p code ws node (CountsOn p t node place)
+      stood = record {
+        own = g.own;
+        some = resumed_hold p plan code node place _ g.own g.resumes;
+        numbers = g.numbers;
+        held = g.held;
+        live = live_counted;
+        refer = g.refer;
+        unnull = g.unnull;
+        locks = g.locks;
+        once = g.once;
+        pending = g.pending;
+        value = g.value;
+      }
+
+      abbrev here_locals : List ℤ
+      here_locals = locals node (CountsOn p t node place) some stood
+
+      abbrev here_locks : List ℕ
+      here_locks = own_locks node (CountsOn p t node place) some stood
+
+      abbrev here_thread : GraphThread
+      here_thread = graph_thread node (CountsOn p t node place) some stood
+
+      fits : AreLoggable p.log here_locks
+      fits = are_loggable node (CountsOn p t node place) some stood
+
+      kept_here : HasKept p.log ws n here_locks
+      kept_here = keeps_locks node (CountsOn p t node place) some stood
+
+      enters : (kept : FlowState) → Enters p t node (seen_by kept here_thread) view own_registers
+      enters kept = record {
+        at_side = on_side here_locks fits kept_here;
+        count = as_long t.kinds here_locals (locals_hold node (CountsOn p t node place) some stood);
+        locals = λ local k there live.
+            subst (λ (z : ℤ). HomeCarries (frame_loads view) own_registers (home_of t.locals local) (typed k z))
+            (stays node (CountsOn p t node place) some stood local (live_counted local live)) (g.locals local k there (live_counted local live));
+        pending = λ other there.
+            let same : own_is ≡ other = same_Some own_is other (sym own_here ∙ there) in
+            subst (λ (z : Node). IsPendingIn p z.action (seen_by kept here_thread) own_registers) same
+            ((owed node (CountsOn p t node place) some stood).enters (seen_by kept here_thread) refl);
+      }
+
+      may_go_on : (kept : FlowState) → MayGoOn p t node place (seen_by kept here_thread) view (pos 0) own_registers
+      may_go_on kept = by place refl
+        where
+          by : (z : NodePlace) → place ≡ z → MayGoOn p t node z (seen_by kept here_thread) view (pos 0) own_registers
+          by the_entry e = enters kept
+          by the_core e = elim unlogged [
+            | inl none ↦ (to_enter none (enters kept), λ other local number next there logged does. absurd (none logged))
+            | inr entry ↦ (let both : the_core ≡ the_entry = sym e ∙ entry in absurd (let z : ⊥ = cc in z))
+          ]
+
+      said_on_time : IsSaid p code words
+      said_on_time =
+          said_by node (CountsOn p t node place) some stood false (own_entry here_locks) (is_record here_locks fits) (is_recorded here_locks fits kept_here)
+          (λ kept there holding. inside holding (record {
+            graph_thread = here_thread;
             there = there;
             goes_on = refl;
             own = g.own;
@@ -640,17 +799,216 @@ module _ (locked : ChosenAreLocked) (p : Plan) (in_registers : locals_of p.log �
             locks = refl;
             live = refl;
             written = comes place;
-            framed = λ word. (
-              λ c. absurd (contains_none word c),
-              λ w. absurd (unframed p in_registers plan t code.of w.local (frame_at p.log n word) w.home),
-            );
+            framed = listed.1;
             view = view;
-            frame = λ word c. absurd (contains_none word c);
+            frame = λ word c. refl;
             owed = pos 0;
-            may = may_go_on kept place;
-          });
+            may = may_go_on kept;
+          }))
+
+  -- ---- Past an assignment
+
+  module _ (node : ℕ) (some : durable_point p.log ws n ≢ 0) (g : GoesOnAt p code ws node the_core) (logged : IsLogged p t node) where
+    abbrev local : ℕ
+    local = logged.local
+
+    abbrev next : ℕ
+    next = logged.assigns.next
+
+    abbrev told_number : StoresAssigned p code ws local
+    told_number = g.assigned logged
+
+    abbrev own_next : IsNodeOf t next
+    own_next = own_after p plan t code.of node g.own local logged.assigns
+
+    kind_there : slice_get t.kinds local ≡ Some logged.assigns.kind
+    kind_there = kind_of_assigned p plan t code.of node g.own local logged.assigns
+
+    abbrev after : List ℤ
+    after = slice_set g.numbers local told_number.number
+
+    inside_numbers : local < length g.numbers
+    inside_numbers =
+        let l = slice_get_within t.kinds local logged.assigns.kind kind_there in let long = as_long t.kinds g.numbers g.held in omega (arith, l, long)
+
+    own_number : slice_index_or after local (pos 0) ≡ told_number.number
+    own_number = get_or-set_same g.numbers local told_number.number (pos 0) inside_numbers
+
+    other_number : (other : ℕ) → other ≢ local → slice_index_or after other (pos 0) ≡ slice_index_or g.numbers other (pos 0)
+    other_number other differs = get_or-set_other g.numbers local other told_number.number (pos 0) differs
+
+    -- those on which it counts at the core are others
+    is_other : (other : ℕ) → CountsOn p t node the_core other → other ≢ local
+    is_other other (by_entry _ none live) = absurd (none logged)
+    is_other other (by_assignment _ it live) =
+        subst (λ (k : ℕ). other ≢ k) (one_assigned p plan node it.local local it.assigns logged.assigns) live.other
+
+    abbrev CountsAfter : (other : ℕ) → Type 0
+    CountsAfter other = (other ≡ local) ⊎ CountsOn p t node the_core other
+
+    goes : IsEdge p.graph node next
+    goes = record {
+      is = logged.assigns.is;
+      at = logged.assigns.at;
+      goes = subst (λ (a : Action). Contains (successors a) next) (sym logged.assigns.action) (contains_first next []);
     }
+
+    live_after : (other : ℕ) → IsLive p.graph other next → CountsAfter other
+    live_after other live = elim (cases_eq other local) [
+      | inl same ↦ inl same
+      | inr differs ↦ inr (by_assignment other logged (record { next = next; goes = goes; live = live; other = differs }))
+    ]
+
+    refer_after : (other array : ℕ) → slice_get (refers_in p t) other ≡ Some (Some array) → CountsAfter other →
+        IsNullOrReference (elements_of x.variables array) (slice_index_or after other (pos 0))
+    refer_after other array its (inl same) =
+        subst (IsNullOrReference (elements_of x.variables array))
+        (sym own_number ∙ ap (λ (k : ℕ). slice_index_or after k (pos 0)) (sym same))
+        (told_number.refer array (ap (slice_get (refers_in p t)) (sym same) ∙ its))
+    refer_after other array its (inr counted) =
+        subst (IsNullOrReference (elements_of x.variables array)) (sym (other_number other (is_other other counted))) (g.refer other array its counted)
+
+    known_is : (k : ℕ) → knowns_before p t k ≡ known_at code.of.text t.part.first k
+    known_is k = knowns_are p t code.of k
+
+    unnull_after : (other array : ℕ) → slice_get (refers_in p t) other ≡ Some (Some array) → CountsAfter other →
+        is_among (knowns_before p t next) other ≡ true → slice_index_or after other (pos 0) ≢ pos 0
+    unnull_after other array its (inl same) among =
+        absurd ((known_after_assign p plan t code.of node g.own local logged.assigns other
+        (ap (λ (ks : List ℕ). is_among ks other) (sym (known_is next)) ∙ among)).1 same)
+    unnull_after other array its (inr counted) among =
+        let before : is_among (knowns_before p t node) other ≡ true =
+        ap (λ (ks : List ℕ). is_among ks other) (known_is node)
+        ∙ (known_after_assign p plan t code.of node g.own local logged.assigns other
+        (ap (λ (ks : List ℕ). is_among ks other) (sym (known_is next)) ∙ among)).0 in
+        λ zeroth. g.unnull other array its counted before (sym (other_number other (is_other other counted)) ∙ zeroth)
+
+    set_stays : set_before p t next ≡ set_before p t node
+    set_stays = set_after_assign p plan t code.of node g.own local logged.assigns
+
+    -- the same locks are held
+    locks_stay : locks_before p t g.numbers node ≡ locks_before p t after next
+    locks_stay =
+        locks_same p plan t code.of (CountsOn p t node the_core) g.numbers after node
+        (λ k z there held other c. by_assignment other logged (counted_beside p plan t code.of node g.own logged k z there held other c))
+        (λ other counted. sym (other_number other (is_other other counted)))
+        ∙ ap (λ (h : Held). map (lock_number after) (held_names (keys_of p t) h)) (sym set_stays)
+
+    none_written : (is : Node) (location : Location) → NodeAt p.graph next is → is.writes ≡ Some location → ⊥
+    none_written is location at writes =
+        let free = free_writes_none p plan t code.of next own_next
+        (ap (λ (z : Standing). z.owes) (free_after_assign p plan t code.of node g.own local logged.assigns)) in
+        let same : (node_is p plan t code.of next own_next).0 ≡ is = same_Some _ is (sym (node_is p plan t code.of next own_next).1 ∙ at) in
+        none-some location (sym free ∙ (ap (λ (z : Node). z.writes) same ∙ writes))
+
+    abbrev stood_after : IsStood p code ws next CountsAfter
+    stood_after = record {
+      own = own_next;
+      some = λ none. logged.holds (ap (λ (h : Held). held_names (keys_of p t) h) (sym set_stays) ∙ none);
+      numbers = after;
+      held = set_held t.kinds g.numbers local logged.assigns.kind told_number.number g.held kind_there (told_number.value logged.assigns.kind kind_there).held;
+      live = live_after;
+      refer = refer_after;
+      unnull = unnull_after;
+      locks = subst (HasKept p.log ws n) locks_stay g.locks;
+      once = subst AreOnce locks_stay g.once;
+      pending = λ is location at writes. absurd (none_written is location at writes);
+      value = λ is location at writes. absurd (none_written is location at writes);
+    }
+
+    abbrev late_locals : List ℤ
+    late_locals = locals next CountsAfter some stood_after
+
+    abbrev late_locks : List ℕ
+    late_locks = own_locks next CountsAfter some stood_after
+
+    abbrev late_thread : GraphThread
+    late_thread = graph_thread next CountsAfter some stood_after
+
+    late_fits : AreLoggable p.log late_locks
+    late_fits = are_loggable next CountsAfter some stood_after
+
+    late_kept : HasKept p.log ws n late_locks
+    late_kept = keeps_locks next CountsAfter some stood_after
+
+    late_hold : AllZip Holds t.kinds late_locals
+    late_hold = locals_hold next CountsAfter some stood_after
+
+    stays_after : (other : ℕ) → CountsAfter other → slice_index_or after other (pos 0) ≡ slice_index_or late_locals other (pos 0)
+    stays_after other counted = stays next CountsAfter some stood_after other counted
+
+    number_there : slice_get late_locals local ≡ Some told_number.number
+    number_there =
+        let l = slice_get_within t.kinds local logged.assigns.kind kind_there in
+        let long = as_long t.kinds late_locals late_hold in
+        slice_get-get_or late_locals local (pos 0) (omega (arith, l, long))
+        ∙ ap (λ (z : ℤ). Some z) (sym (stays_after local (inl refl)) ∙ own_number)
+
+    ready : (kept : FlowState) → IsReady p t node (seen_by kept late_thread) (resumed_view p code ws) told_number.number (resumed_registers p.log ws n)
+    ready kept = to_assign logged (record {
+      at_side = on_side node the_core some g late_locks late_fits late_kept;
+      count = as_long t.kinds late_locals late_hold;
+      locals = λ other word k kind live home.
+          let counted : CountsOn p t node the_core other = by_assignment other logged live in
+          subst (λ (z : ℤ). IsFramed (frame_loads (resumed_view p code ws)) word (typed k z))
+          (sym (other_number other live.other) ∙ stays_after other (inr counted))
+          (subst (λ (h : Home). HomeCarries (frame_loads (resumed_view p code ws)) (resumed_registers p.log ws n) h
+          (typed k (slice_index_or g.numbers other (pos 0)))) home (g.locals other k kind counted));
+      assigned = record {
+        word = told_number.word;
+        home = told_number.home;
+        address = told_number.address;
+        below = subst (λ (w : ℕ). w < 2 ^ 64) told_number.address (register_small p.log n ws log pending_address (address_keepable p.log));
+        carries = told_number.value;
+      };
+    })
+
+    said_late : IsSaid p code words
+    said_late =
+        said_by next CountsAfter some stood_after true (own_entry node the_core some g late_locks) (is_record node the_core some g late_locks late_fits)
+        (is_recorded node the_core some g late_locks late_fits late_kept)
+        (λ kept there holding. record {
+          holds = holding;
+          graph_thread = late_thread;
+          there = there;
+          goes_on = refl;
+          own = own_next;
+          point = some;
+          locks = refl;
+          node = node;
+          own_node = g.own;
+          logged = logged;
+          goes = refl;
+          owed = told_number.number;
+          number = number_there;
+          chosen = (at_core p code node _ g.resumes).0;
+          resumes = (at_core p code node _ g.resumes).1;
+          live = refl;
+          framed = (listed node the_core some g).1;
+          view = resumed_view p code ws;
+          frame = λ word c. refl;
+          ready = ready kept;
+        })
+
+  -- a store of an element is no logged assignment
+  element_unlogged : (node : ℕ) (own : IsNodeOf t node) (is : Node) (location : Location) → NodeAt p.graph node is → is.writes ≡ Some location →
+      ¬ (IsLogged p t node)
+  element_unlogged node own is location at writes logged =
+      let it = logged.assigns in
+      let same : is ≡ it.is = same_Some is it.is (sym at ∙ it.at) in
+      let lowered_at : NodeAt (lowered x) node it.is = subst (λ (g : Graph). NodeAt g node it.is) plan.lowered it.at in
+      let shaped =
+      subst (λ (z : Action). ShapedAs (threads_nodes x x.threads 0) it.is z) it.action (node_shaped x node it.is (nodes_at x node it.is lowered_at)) in
+      none-some location (sym shaped.1.writes ∙ (ap (λ (z : Node). z.writes) (sym same) ∙ writes))
+
+  said_at : (node : ℕ) (place : NodePlace) → durable_point p.log ws n ≢ 0 → GoesOnAt p code ws node place → IsSaid p code words
+  said_at node the_entry some g = said_on_time node the_entry some g (inr refl)
+  said_at node the_core some g = by (chosen_write p plan code node g.own (at_core p code node _ g.resumes).0)
+    where
+      by : IsWrite p plan code node → IsSaid p code words
+      by (of_element is location at writes) = said_on_time node the_core some g (inl (element_unlogged node g.own is location at writes))
+      by (of_assignment logged) = said_late node some g logged
 
   pub said : HasThreadShape p code ws → IsSaid p code words
   said (idle none) = said_between none
-  said (resumes node place some g) = said_inside node place some g
+  said (resumes node place some g) = said_at node place some g

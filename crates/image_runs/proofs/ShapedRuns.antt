@@ -13,13 +13,11 @@ use Rattle.compiler_correctness.specs.SettledImages.{IsCarriedOn, IsSettledImage
 use Rattle.compiler_correctness.specs.Translations.{Translation, translation_to}
 use Rattle.compiler_correctness.specs.WordRuns.{RunsOn}
 use Rattle.crash_images.specs.Contents.{log_of}
-use Rattle.crash_images.specs.declared.version.ImageVersion.{ImageVersion}
-use Rattle.log_schemes.specs.Schemes.{locals_of}
 use Rattle.image_runs.specs.Laws.{AcceptedGoOn, AcceptedHaveShape, AcceptedRunOn, ShapesAreStates, ShapesRunOn}
 use Rattle.image_runs.specs.StateImages.{image_of_state}
 
 pub shapes_run_on : ShapesAreStates → RecoveredWordsRunOn → ShapesRunOn
-shapes_run_on states run y registers s image shape = let from = states y registers s image.words shape in run y s from.0 image from.1
+shapes_run_on states run y s image shape = let from = states y s image.words shape in run y s from.0 image from.1
 
 -- what readers see of the system
 abbrev seen_as : Flat → Executable → Boundaries → Translation
@@ -30,25 +28,20 @@ same_translation : (flat : Flat) (object : Object) (marks : Marks) (cuts : Cuts)
 same_translation flat object marks cuts log t =
     ap (λ (x : Flat). seen_as x t.system.runs t.system.plan.boundaries) t.of_flat ∙ ap₂ (seen_as flat) t.runs t.at_cuts
 
--- it logs as images of the version do
-log_is : (version : ImageVersion) (flat : Flat) (object : Object) (marks : Marks) (cuts : Cuts) (t : IsTranslatedAs (log_of version) flat object marks cuts) →
-    t.system.plan.log ≡ log_of version
-log_is version flat object marks cuts t = t.is.log ∙ (ap (λ (x : Executable). x.log) t.runs ∙ t.log)
-
 pub accepted_run_on : AcceptedHaveShape → ShapesRunOn → AcceptedRunOn
-accepted_run_on have run version registers flat object marks cuts table state kept r is right formed =
+accepted_run_on have run version flat object marks cuts table state kept r is right formed =
     let t = r.translated in
     subst (λ (c : Translation). RunsOn c (image_of_state state kept)) (same_translation flat object marks cuts (log_of version) t)
-    (run t.system (ap locals_of (log_is version flat object marks cuts t) ∙ registers) t.is (image_of_state state kept)
+    (run t.system t.is (image_of_state state kept)
     (have version flat object marks cuts table state r is right formed))
 
 pub accepted_go_on : AcceptedHaveShape → ShapesAreStates → SettledImagesGoOn → AcceptedGoOn
-accepted_go_on have states go_on version registers flat object marks cuts table state kept r is right formed settled events =
+accepted_go_on have states go_on version flat object marks cuts table state kept r is right formed settled events =
     let t = r.translated in
     let image = image_of_state state kept in
     let same = same_translation flat object marks cuts (log_of version) t in
     let from =
-    states t.system (ap locals_of (log_is version flat object marks cuts t) ∙ registers) t.is image.words
+    states t.system t.is image.words
     (have version flat object marks cuts table state r is right formed) in
     let here = subst (λ (c : Translation). IsSettledImage c image) (sym same) settled in
     subst (λ (c : Translation). IsCarriedOn c image events) same (go_on t.system t.is from.0 image from.1 here events)

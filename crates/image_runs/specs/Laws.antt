@@ -1,8 +1,6 @@
 -- Which words have the shape, what they are, and what a machine does that begins with them.
-use Rattle.std.specs.Prelude.{◌≡◌, ℕ, List, length, Vec}
+use Rattle.std.specs.Prelude.{ℕ, List, length, Vec}
 use Rattle.std.specs.Global.{Global}
-use Rattle.log_schemes.specs.declared.locals.Locals.TheVariants.{Registers}
-use Rattle.log_schemes.specs.Schemes.{locals_of}
 use Rattle.machine_events.specs.declared.event.Event.{Event}
 use Rattle.c_tree.specs.Flats.{Flat}
 use Rattle.machine_model.specs.declared.object.Object.{Object}
@@ -42,34 +40,29 @@ CrashesLeaveShape = (y : System) (s : IsSystem y) (events : List Event) → HasS
 -- ---- What they are
 
 -- the words are what the records of some state of the source leave, whether a run reaches it or not: an execution may begin there, and harts recover to it.
--- Where locals stand in the log, the number that a logged assignment stores may be another one than its expression gives, and nothing is said of words that no
--- run left
+-- A thread that is resumed past the boundary of a logged assignment stands after that there, whatever number it stores
 abbrev pub ShapesAreStates : Type 0
 ShapesAreStates =
-    (y : System) → locals_of y.plan.log ≡ Registers → (s : IsSystem y) (words : List ℕ) → HasShape y.plan s.codes words →
+    (y : System) (s : IsSystem y) (words : List ℕ) → HasShape y.plan s.codes words →
     (o : Origin (flat_of y)) × IsRecoveredFrom y s o words
 
 -- ---- What a machine does that begins with them
 
--- where locals stand in the log, nothing is said of words that no run left
 abbrev pub ShapesRunOn : Type 0
-ShapesRunOn =
-    (y : System) → locals_of y.plan.log ≡ Registers → (s : IsSystem y) (image : Image) → HasShape y.plan s.codes image.words → RunsOn (translation_of y) image
+ShapesRunOn = (y : System) (s : IsSystem y) (image : Image) → HasShape y.plan s.codes image.words → RunsOn (translation_of y) image
 
--- an image without a fault is run on by the program that it is checked against, whatever its schedules are. Where locals stand in the log, such a file that no
--- run left is accepted, and nothing is said of what a machine does that begins with it
+-- an image without a fault is run on by the program that it is checked against, whatever its schedules are
 abbrev pub AcceptedRunOn : Type 0
-AcceptedRunOn = (version : ImageVersion) → locals_of (log_of version) ≡ Registers →
-    (flat : Flat) (object : Object) (marks : Marks) (cuts : Cuts) (table : List (Vec Resume Global)) (state : State) (kept : LifeSchedules) →
+AcceptedRunOn = (version : ImageVersion) (flat : Flat) (object : Object) (marks : Marks) (cuts : Cuts) (table : List (Vec Resume Global)) (state : State)
+    (kept : LifeSchedules) →
     IsResumableAs (log_of version) flat object marks cuts table → IsState version (length object.initial.items) (length object.code.items) state →
     AreReferences flat state.variables → IsWellFormedState (log_of version) flat table state →
     RunsOn (translation_to flat object marks cuts) (image_of_state state kept)
 
--- and where it is settled, lives go on from it as from the source's start, whoever wrote it. Where locals stand in the log, nothing is said of files that no
--- run left
+-- and where it is settled, lives go on from it as from the source's start, whoever wrote it
 abbrev pub AcceptedGoOn : Type 0
-AcceptedGoOn = (version : ImageVersion) → locals_of (log_of version) ≡ Registers →
-    (flat : Flat) (object : Object) (marks : Marks) (cuts : Cuts) (table : List (Vec Resume Global)) (state : State) (kept : LifeSchedules) →
+AcceptedGoOn = (version : ImageVersion) (flat : Flat) (object : Object) (marks : Marks) (cuts : Cuts) (table : List (Vec Resume Global)) (state : State)
+    (kept : LifeSchedules) →
     IsResumableAs (log_of version) flat object marks cuts table → IsState version (length object.initial.items) (length object.code.items) state →
     AreReferences flat state.variables → IsWellFormedState (log_of version) flat table state →
     let c = translation_to flat object marks cuts in

@@ -1,6 +1,5 @@
 -- What durable words must have so that threads can be resumed by them, whoever left them: points, recorded locks, numbers and references, and no history.
--- Of a number that a logged assignment stores nothing is asked.
-use Rattle.std.specs.Prelude.{◌≡◌, ◌≢◌, ℕ, ◌<◌, List, length, map, slice_get, slice_index_or, Some, true, ℤ, pos}
+use Rattle.std.specs.Prelude.{◌≡◌, ◌≢◌, ℕ, ◌<◌, List, length, map, slice_get, slice_index_or, Option, Some, true, ℤ, pos}
 use Rattle.std.specs.List.{AllZip}
 use Rattle.ido_base.specs.declared.location.Location.{Location}
 use Rattle.ido_base.specs.Words.{Word, word_of}
@@ -20,15 +19,17 @@ use Rattle.flow_graph.specs.Nodes.{Node}
 use Rattle.flow_graph.specs.Liveness.{NodeAt}
 use Rattle.flow_graph.specs.Paths.{naming_of}
 use Rattle.log_states.specs.Logs.{HasLog}
-use Rattle.log_states.specs.BanksRead.{HasKept}
-use Rattle.thread_code.specs.Plans.{Plan, IsNodeOf, locks_before}
+use Rattle.log_states.specs.BanksRead.{HasKept, HasTold}
+use Rattle.thread_code.specs.Plans.{Plan, IsLogged, IsNodeOf, locks_before}
 use Rattle.thread_code.specs.RegistersAtNodes.{LogView, frame_loads}
-use Rattle.recovered_threads.specs.RecordDescriptions.{Code, Codes, CountsOn, NodePlace, ResumesAt}
+use Rattle.recovered_threads.specs.RecordDescriptions.{Code, Codes, ComesNext, CountsOn, NodePlace, ResumesAt, the_core, the_entry}
 use Rattle.flat_compile.specs.ResumePlaces.{refers_in, knowns_before}
 use Rattle.image_checks.specs.Logs.{AreOnce}
 use Rattle.image_checks.specs.Checks.{IsElementOf, IsReferenceWord}
 use Rattle.image_checks.specs.VariableReferences.{AreReferences}
 use Rattle.expr_code.specs.EvaluationCode.{home_of, HomeCarries}
+use Rattle.expr_code.specs.declared.home.Home.TheVariants.{InFrame}
+use Rattle.operator_code.specs.ComputingCode.{Carries}
 
 module _ (p : Plan) (code : Code p) (words : List Word) where
   -- the registers with which recovery resumes the thread
@@ -38,6 +39,21 @@ module _ (p : Plan) (code : Code p) (words : List Word) where
   -- its log then: each word has what is durable of it
   abbrev pub resumed_view : LogView
   resumed_view = record { side = bank_of (durable_point p.log words code.thread.number); frame = λ address. durable_at words address }
+
+  -- a number that is stored to the local: registers have the address of the local's word in the frame and the number, of its kind; where that is a reference,
+  -- it is null, or one to its array
+  pub record StoresAssigned (local : ℕ) : Type 0 where
+    pub number : ℤ
+    pub word : ℕ
+    pub home : home_of code.thread.locals local ≡ InFrame word
+    pub address : read resumed pending_address ≡ word
+    pub value : (k : Kind) → slice_get code.thread.kinds local ≡ Some k → Carries resumed pending_value (typed k number)
+    pub refer : (array : ℕ) → slice_get (refers_in p code.thread) local ≡ Some (Some array) → IsNullOrReference (elements_of p.flat.variables array) number
+
+  -- past its boundary a logged assignment stores such a number, whatever its expression gives
+  abbrev pub HasAssignment : (node : ℕ) → NodePlace → Type 0
+  HasAssignment node the_entry = Unit {0}
+  HasAssignment node the_core = (logged : IsLogged p code.thread node) → StoresAssigned logged.local
 
   -- the thread goes on at the node, there: it is resumed where a boundary does that, and finds what it needs
   pub record GoesOnAt (node : ℕ) (place : NodePlace) : Type 0 where
@@ -63,6 +79,9 @@ module _ (p : Plan) (code : Code p) (words : List Word) where
     -- of its number nothing is asked, unless it is a reference
     pub value : (is : Node) (location : Location) → NodeAt p.graph node is → is.writes ≡ Some location →
         IsReferenceWord p.flat.variables (variable_refers p.flat.variables location.variable) (read resumed pending_value)
+    pub assigned : HasAssignment node place
+    -- the bank is told of the write that comes
+    pub told : (written : Option ℕ) → ComesNext p node place written → HasTold p.log words code.thread.number written
 
   -- the thread stands between two sections, or goes on at a node
   pub data HasThreadShape : Type 0 where

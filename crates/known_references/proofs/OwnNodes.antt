@@ -1,18 +1,23 @@
 -- Each node of a thread's own leads on so by what is known in the thread.
-use Rattle.std.proofs.Common.{◌≡◌, ◌<◌, ◌≤◌, sym, ◌∙◌, ap, subst, ℕ, zero, suc, ◌+◌, ◌-◌, List, [], ◌∷◌, ◌++◌, length, map, Some, arith}
+use Rattle.std.proofs.Common.{◌≡◌, ◌≢◌, ◌==◌, true, false, ◌<◌, ◌≤◌, sym, ◌∙◌, ap, subst, ℕ, zero, suc, ◌+◌, ◌-◌, List, [], ◌∷◌, ◌++◌, length, map, Some, arith}
 use Rattle.std.specs.Prelude.{slice_get, slice_index_or}
 use Rattle.std.specs.List.{AllZip}
+use Rattle.std.proofs.lemmas.Bool.{eq-eqb, or_parts, true≢false}
 use Rattle.std.proofs.lemmas.Option.{none-some, same_Some}
+use Rattle.ido_base.specs.declared.place.Place.{Place}
+use Rattle.ido_ints.specs.declared.kinds.Kind.{Kind}
+use Rattle.c_tree.specs.Exprs as e
 use Rattle.c_tree.specs.Flats as f
+use Rattle.c_tree.specs.NullReferences.{is_among}
 use Rattle.c_ranges.specs.KnownAtSteps.{thread_knowns}
 use Rattle.flow_graph.specs.declared.graph.Part.{Part}
-use Rattle.flow_graph.specs.Nodes.{Node}
+use Rattle.flow_graph.specs.Nodes.{Node, Action, Eval}
 use Rattle.flow_graph.specs.Liveness.{NodeAt}
 use Rattle.flow_graph.specs.Lowering.{lowered, part, parts, table_of, thread_count, thread_nodes, threads_nodes}
 use Rattle.flow_graph.specs.Lockstep.{IsOwnNode}
 use Rattle.flow_graph.proofs.Public.{length-thread_nodes, lowered_threads, nodes_at}
 use Rattle.region_attempts.specs.KnownReferences.{known_at}
-use Rattle.known_references.proofs.KnownAtNodes.{NodeLeads, leads_thread}
+use Rattle.known_references.proofs.KnownAtNodes.{Leads, NodeLeads, leads_thread}
 
 -- ---- Lists
 
@@ -102,3 +107,14 @@ own_leads x number k t own n i p at g =
     let zeroth : 0 + k ≡ k = omega arith in
     subst (λ (j : ℕ). OwnLeads t own j n) zeroth
     (leads_own x x.threads 0 number own t part_is i k n (nodes_at x k n g) (omega (arith, from)) (omega (arith, below)))
+
+-- what is known not to be null after an assignment of a local was so before it, and isn't that local
+pub assigned_leads : (x : f.Flat) (number k : ℕ) (t : f.Thread) (own : Part) (n : Node) → slice_get x.threads number ≡ Some t →
+    slice_get (lowered x).threads number ≡ Some own → IsOwnNode x number k → NodeAt (lowered x) k n → (place : Place) (local : ℕ) (kind : Kind)
+    (value : e.Placed) (next : ℕ) → n.action ≡ Eval (e.ToLocal place local kind) value next → (other : ℕ) →
+    is_among (known_at t own.first next) other ≡ true → (is_among (known_at t own.first k) other ≡ true) × (other ≢ local)
+assigned_leads x number k t own n its part at there place local kind value next action other among =
+    let leads : Leads (known_at t own.first) (Eval (e.ToLocal place local kind) value next) (known_at t own.first k) =
+    subst (λ (a : Action). Leads (known_at t own.first) a (known_at t own.first k)) action (own_leads x number k t own n its part at there) in
+    let before = leads.0 other among in
+    (before, λ same. true≢false (sym (eq-eqb local other (sym same)) ∙ (or_parts (local == other) false (leads.1 other before)).0))

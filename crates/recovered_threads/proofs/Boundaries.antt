@@ -57,7 +57,7 @@ value_kept : (l : Locals) → may_keep_at l 29 ≡ true
 value_kept Registers = refl
 value_kept Frame = refl
 
-none_contained : (xs : List ℕ) → ((x : ℕ) → Contains xs x → ⊥) → xs ≡ []
+pub none_contained : (xs : List ℕ) → ((x : ℕ) → Contains xs x → ⊥) → xs ≡ []
 none_contained [] none = refl
 none_contained (x ∷ xs) none = absurd (none x (contains_first x xs))
 
@@ -78,14 +78,14 @@ module _ (p : Plan) (plan : IsPlan p) (t : Thread) (is : IsThread p t) (node : �
         exists = plan.registers.exist t.number found.0 is.colours is.of_colours (contained_at is.colours local found.0 found.1);
       }
 
-  kept_is : (register : ℕ) → IsKept p t node register → may_keep p.log register ≡ true
+  pub kept_is : (register : ℕ) → IsKept p t node register → may_keep p.log register ≡ true
   kept_is register (of_local local k own there live at) =
       let has = has_colour local (slice_get_within t.kinds local k there) in
       home_kept p.log t.number (locals_of p.log) has.colour own has.exists (sym has.home ∙ at)
   kept_is register (of_address store) = address_kept (locals_of p.log)
   kept_is register (of_value store) = value_kept (locals_of p.log)
 
-  kept_before_is : (register : ℕ) → IsKeptBefore p t node register → may_keep p.log register ≡ true
+  pub kept_before_is : (register : ℕ) → IsKeptBefore p t node register → may_keep p.log register ≡ true
   kept_before_is register (of_entry own kept) = kept_is own kept
   kept_before_is register (of_word logged) = address_kept (locals_of p.log)
   kept_before_is register (of_number logged) = value_kept (locals_of p.log)
@@ -96,7 +96,7 @@ module _ (p : Plan) (plan : IsPlan p) (t : Thread) (is : IsThread p t) (node : �
       let has = has_colour local below in
       no_register p.log t.number has.colour register (ap (λ (l : Locals). home_at l p.log t.number has.colour) (sym frame) ∙ (sym has.home ∙ at))
 
-  entry_none : locals_of p.log ≡ Frame → ¬ (IsStoreNode p.graph node) → (register : ℕ) → IsKept p t node register → ⊥
+  pub entry_none : locals_of p.log ≡ Frame → ¬ (IsStoreNode p.graph node) → (register : ℕ) → IsKept p t node register → ⊥
   entry_none frame none register (of_local local k own there live at) = local_none frame local own (slice_get_within t.kinds local k there) at
   entry_none frame none register (of_address store) = none store
   entry_none frame none register (of_value store) = none store
@@ -106,7 +106,7 @@ module _ (p : Plan) (plan : IsPlan p) (t : Thread) (is : IsThread p t) (node : �
   stores_none is at none (stores x variable kind next there does) =
       none-some _ (sym none ∙ (ap (λ (n : Node). bytes_written n.action) (same_Some is x (sym at ∙ there)) ∙ ap bytes_written does))
 
-  core_none : locals_of p.log ≡ Frame → (is : Node) → NodeAt p.graph node is → bytes_written is.action ≡ None → (register : ℕ) →
+  pub core_none : locals_of p.log ≡ Frame → (is : Node) → NodeAt p.graph node is → bytes_written is.action ≡ None → (register : ℕ) →
       IsKeptBefore p t node register → ⊥
   core_none frame is at none register (of_entry own kept) = entry_none frame (stores_none is at none) own kept
   core_none frame is at none register (of_word logged) =
@@ -117,7 +117,7 @@ module _ (p : Plan) (plan : IsPlan p) (t : Thread) (is : IsThread p t) (node : �
       none-some 8 (sym none ∙ (ap (λ (n : Node). bytes_written n.action) (same_Some is a.is (sym at ∙ a.at)) ∙ ap bytes_written a.action))
 
 -- a write has few bytes
-few_bytes : (a : Action) (bytes : ℕ) → bytes_written a ≡ Some bytes → bytes ≤ 8
+pub few_bytes : (a : Action) (bytes : ℕ) → bytes_written a ≡ Some bytes → bytes ≤ 8
 few_bytes (Eval target value next) bytes e = let z : 8 ≡ bytes = same_Some 8 bytes e in omega (arith, z)
 few_bytes (Store variable kind next) bytes e = subst (λ (n : ℕ). n ≤ 8) (same_Some _ bytes e) (bytes_small kind)
 few_bytes (Test condition to other) bytes e = absurd (none-some bytes e)

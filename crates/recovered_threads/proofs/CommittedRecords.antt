@@ -1,5 +1,5 @@
 -- What a committed boundary's record describes, and what the others' go on to describe.
-use Rattle.std.proofs.Common.{◌≡◌, ◌≢◌, inl, inr, ℕ, List, [], refl, ap, sym, ◌∙◌, subst, Some}
+use Rattle.std.proofs.Common.{◌≡◌, ◌≢◌, inl, inr, ℕ, List, [], refl, ap, sym, ◌∙◌, subst, Some, true, false}
 use Rattle.std.specs.Prelude.{slice_get, ℤ}
 use Rattle.std.proofs.lemmas.Bool.{cases_Bool}
 use Rattle.ido_base.specs.Locks.{holds_none}
@@ -101,9 +101,11 @@ may_on p code kept after graph_thread the_core view owed x there alike may = (
 holds_on : (n : ℕ) (kept after : FlowState) → held_by n after.holders ≡ held_by n kept.holders → holds_none after.holders n ≡ holds_none kept.holders n
 holds_on n kept after same = none_where n after.holders ∙ (ap (λ (h : Held). is_empty (locks_held h)) same ∙ sym (none_where n kept.holders))
 
-pub others_describe : OthersDescribe
-others_describe p code kept after r (between none point) graph_threads held alike = between (holds_on code.thread.number kept after held ∙ none) point
-others_describe p code kept after r (inside some i) graph_threads held alike = inside (holds_on code.thread.number kept after held ∙ some) (record {
+others_on_time : (p : Plan) (code : Code p) (kept after : FlowState) (r : Record) → Describes p code kept r →
+    slice_get after.graph_threads code.thread.number ≡ slice_get kept.graph_threads code.thread.number →
+    held_by code.thread.number after.holders ≡ held_by code.thread.number kept.holders → AssignsAlike p code.thread kept after → Describes p code after r
+others_on_time p code kept after r (between none point) graph_threads held alike = between (holds_on code.thread.number kept after held ∙ none) point
+others_on_time p code kept after r (inside some i) graph_threads held alike = inside (holds_on code.thread.number kept after held ∙ some) (record {
   graph_thread = i.graph_thread;
   there = graph_threads ∙ i.there;
   goes_on = i.goes_on;
@@ -120,3 +122,28 @@ others_describe p code kept after r (inside some i) graph_threads held alike = i
   owed = i.owed;
   may = may_on p code kept after i.graph_thread i.place i.view i.owed r.registers i.there alike i.may;
 })
+
+pub others_describe : OthersDescribe
+others_describe p code kept after false r describes graph_threads held alike = others_on_time p code kept after r describes graph_threads held alike
+others_describe p code kept after true r past graph_threads held alike = record {
+  holds = holds_on code.thread.number kept after held ∙ past.holds;
+  graph_thread = past.graph_thread;
+  there = graph_threads ∙ past.there;
+  goes_on = past.goes_on;
+  own = past.own;
+  point = past.point;
+  locks = past.locks;
+  node = past.node;
+  own_node = past.own_node;
+  logged = past.logged;
+  goes = past.goes;
+  owed = past.owed;
+  number = past.number;
+  chosen = past.chosen;
+  resumes = past.resumes;
+  live = past.live;
+  framed = past.framed;
+  view = past.view;
+  frame = past.frame;
+  ready = ready_whatever p code.thread past.node (seen_by kept past.graph_thread) after.variables past.view past.owed r.registers past.ready;
+}

@@ -13,7 +13,7 @@ use Rattle.flow_graph.proofs.Public.{found_in}
 use Rattle.log_states.specs.Logs.{Record}
 use Rattle.hart_runs.specs.Calls.{IsInPhase}
 use Rattle.thread_code.specs.Plans.{Plan, IsPlan}
-use Rattle.recovered_threads.specs.RecordDescriptions.{Code, Codes, IsOrderly, Describes, between, inside, AllDescribe, locks_of}
+use Rattle.recovered_threads.specs.RecordDescriptions.{Code, Codes, IsOrderly, Describes, DescribesAs, between, inside, AllDescribe, locks_of}
 use Rattle.recovered_threads.specs.RecoveryStates.{Gathers, AreGathering}
 use Rattle.recovered_threads.specs.Laws.{GatheredAreKept, ReadyAsKept, PointsSettle}
 use Rattle.recovered_threads.proofs.ChangedWorlds.{same_there}
@@ -28,14 +28,14 @@ same_lists [] (y ∷ ys) count same = absurd (let z : ⊥ = omega (arith, count)
 same_lists (x ∷ xs) [] count same = absurd (let z : ⊥ = omega (arith, count) in z)
 same_lists (x ∷ xs) (y ∷ ys) count same = ap₂ ◌∷◌ (same 0 x y refl refl) (same_lists xs ys (omega (arith, count)) (λ k a b. same (suc k) a b))
 
-module _ {p : Plan} (codes : Codes p) {kept : FlowState} {w : World} {records : ℕ → Record} (plan : IsPlan p) (orderly : IsOrderly p kept)
-    (describe : AllDescribe p codes kept records) (gathering : AreGathering w records) (none : (g : ℕ) → ¬ (IsInPhase w g Take))
+module _ {p : Plan} (codes : Codes p) {kept : FlowState} {w : World} (lates : ℕ → Bool) {records : ℕ → Record} (plan : IsPlan p) (orderly : IsOrderly p kept)
+    (describe : AllDescribe p codes kept lates records) (gathering : AreGathering w records) (none : (g : ℕ) → ¬ (IsInPhase w g Take))
     (count : length w.harts ≡ length p.graph.threads) where
   -- a thread's locks are those of its record
   held : (n : ℕ) (below : n < length p.graph.threads) (lock : ℕ) →
       (has_lock (locks_of (records n)) lock ≡ true) ↔ (slice_get kept.holders lock ≡ Some (Some n))
   held n below lock =
-      let is = locks_are_held p (codes.each n below) kept (records n) plan orderly (describe n below) lock in
+      let is = locks_are_held p (codes.each n below) kept (lates n) (records n) plan orderly (describe n below) lock in
       subst (λ (k : ℕ). (has_lock (locks_of (records n)) lock ≡ true) ↔ (slice_get kept.holders lock ≡ Some (Some k))) (codes.number n below) is
 
   -- a lock of a thread's record isn't free: the thread's hart has it
@@ -60,11 +60,11 @@ module _ {p : Plan} (codes : Codes p) {kept : FlowState} {w : World} {records : 
       same_there (slice_get kept.holders lock) (Some h) y ((held h (omega (arith, own.exists, count)) lock).0 own.has) there
 
 pub gathered_are_kept : GatheredAreKept
-gathered_are_kept p codes kept w records plan orderly describe gathering none harts locks =
-    same_lists w.holders kept.holders locks (same_holder codes plan orderly describe gathering none harts)
+gathered_are_kept p codes kept w lates records plan orderly describe gathering none harts locks =
+    same_lists w.holders kept.holders locks (same_holder codes lates plan orderly describe gathering none harts)
 
 pub ready_as_kept : ReadyAsKept
-ready_as_kept p code kept w r plan orderly describes ready count lock = (
+ready_as_kept p code kept w late r plan orderly describes ready count lock = (
   λ held. of.0 (ready.only lock held),
   λ there.
       let found = found_in w.holders lock (let below = slice_get_within kept.holders lock (Some code.thread.number) there in omega (arith, below, count)) in
@@ -72,7 +72,7 @@ ready_as_kept p code kept w r plan orderly describes ready count lock = (
 )
   where
     of : (has_lock (locks_of r) lock ≡ true) ↔ (slice_get kept.holders lock ≡ Some (Some code.thread.number))
-    of = locks_are_held p code kept r plan orderly describes lock
+    of = locks_are_held p code kept late r plan orderly describes lock
 
 -- ---- All free
 
@@ -85,18 +85,23 @@ none_if at n (o ∷ holders) free = by (is_held_by n o) refl (none_if (at + 1) n
     by false e h = h
 
 -- a point is 0 exactly where its thread holds nothing
-point_holds : (p : Plan) (code : Code p) (kept : FlowState) (r : Record) → Describes p code kept r →
+point_on_time : (p : Plan) (code : Code p) (kept : FlowState) (r : Record) → Describes p code kept r →
     (r.point ≡ 0) ↔ (holds_none kept.holders code.thread.number ≡ true)
-point_holds p code kept r (between none point) = (λ e. none, λ e. point)
-point_holds p code kept r (inside some i) = (λ e. absurd (i.point e), λ e. absurd (true≢false (sym e ∙ some)))
+point_on_time p code kept r (between none point) = (λ e. none, λ e. point)
+point_on_time p code kept r (inside some i) = (λ e. absurd (i.point e), λ e. absurd (true≢false (sym e ∙ some)))
+
+point_holds : (p : Plan) (code : Code p) (kept : FlowState) (late : Bool) (r : Record) → DescribesAs p code kept late r →
+    (r.point ≡ 0) ↔ (holds_none kept.holders code.thread.number ≡ true)
+point_holds p code kept false r describes = point_on_time p code kept r describes
+point_holds p code kept true r past = (λ e. absurd (past.point e), λ e. absurd (true≢false (sym e ∙ past.holds)))
 
 pub points_settle : PointsSettle
-points_settle log p codes kept records words orderly describe points = (free, settled)
+points_settle log p codes kept lates records words orderly describe points = (free, settled)
   where
     of : (n : ℕ) (below : n < length p.graph.threads) → ((records n).point ≡ 0) ↔ (holds_none kept.holders n ≡ true)
     of n below =
         subst (λ (k : ℕ). ((records n).point ≡ 0) ↔ (holds_none kept.holders k ≡ true)) (codes.number n below)
-        (point_holds p (codes.each n below) kept (records n) (describe n below))
+        (point_holds p (codes.each n below) kept (lates n) (records n) (describe n below))
 
     free : ((n : ℕ) → n < length p.graph.threads → durable_point log words n ≡ 0) → (lock : ℕ) (holder : Option ℕ) → slice_get kept.holders lock ≡ Some holder →
         holder ≡ None

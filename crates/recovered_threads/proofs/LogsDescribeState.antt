@@ -1,5 +1,5 @@
 -- What the logs of a machine describe: at the start, after a crash and in recovery.
-use Rattle.std.proofs.Common.{◌≡◌, ◌⊎◌, inl, inr, ℕ, ◌<◌, ◌≤◌, ◌↔◌, List, [], length, refl, ap, arith, sym, ◌∙◌, subst, true, Some}
+use Rattle.std.proofs.Common.{◌≡◌, ◌⊎◌, inl, inr, ℕ, ◌<◌, ◌≤◌, ◌↔◌, List, [], length, refl, ap, arith, sym, ◌∙◌, subst, Bool, true, false, Some}
 use Rattle.std.specs.Prelude.{slice_get}
 use Rattle.std.proofs.lemmas.Bool.{cases_lt, cond-true}
 use Rattle.std.proofs.lemmas.Option.{same_Some}
@@ -14,7 +14,7 @@ use Rattle.log_states.specs.Stages.{is_committed, left_by_crash}
 use Rattle.log_states.specs.Machines.{config_of}
 use Rattle.log_states.proofs.Public.{log_facts, ends_committed, starts_standing, crashes_standing}
 use Rattle.thread_code.specs.Plans.{Plan}
-use Rattle.recovered_threads.specs.RecordDescriptions.{Code, Codes, Describes, AllDescribe}
+use Rattle.recovered_threads.specs.RecordDescriptions.{Code, Codes, DescribesAs, AllDescribe}
 use Rattle.recovered_threads.specs.RecoveryStates.{HasRecord}
 use Rattle.recovered_threads.specs.Machines.{LogDescribes, LogsDescribe}
 use Rattle.recovered_threads.specs.Laws.{StartsDescribe, DurableLocksAreHeld, DurableLocksAreApart, DurablePointsSettle, CrashesRecover, RecoveringDescribes}
@@ -34,21 +34,22 @@ left_is thread r w s =
     (ends_committed w.log thread nothing_recorded r (config_of w s.hart []) s.log refl)
 
 -- a log with a record that describes the kept state
-describes_by : (p : Plan) (code : Code p) (kept : FlowState) (w : World) (r : Record) → HasRecord w code.thread.number r → Describes p code kept r →
-    LogDescribes p code kept w
-describes_by p code kept w r s describes = record {
+describes_by : (p : Plan) (code : Code p) (kept : FlowState) (w : World) (late : Bool) (r : Record) → HasRecord w code.thread.number r →
+    DescribesAs p code kept late r → LogDescribes p code kept w
+describes_by p code kept w late r s describes = record {
   old = nothing_recorded;
   new = r;
   rest = [];
   log = s;
-  describes = subst (λ (x : Record). Describes p code kept x) (sym (left_is code.thread.number r w s)) describes;
+  late = late;
+  describes = subst (λ (x : Record). DescribesAs p code kept late x) (sym (left_is code.thread.number r w s)) describes;
 }
 
 pub starts_describe : StartsDescribe
 starts_describe log program locks initial p codes count n below =
     let code = codes.each n below in
     let inside : code.thread.number < length program = omega (arith, below, count, codes.number n below) in
-    describes_by p code (graph_start p.graph p.flat) (start_of log program locks initial) nothing_recorded
+    describes_by p code (graph_start p.graph p.flat) (start_of log program locks initial) false nothing_recorded
     (starts_standing log program locks code.thread.number initial inside) (starts_told p codes n below)
 
 pub durable_locks_are_held : DurableLocksAreHeld
@@ -56,7 +57,7 @@ unfolding left
 durable_locks_are_held p code kept w plan orderly t lock =
     subst (λ (locks : List ℕ). (has_lock locks lock ≡ true) ↔ (slice_get kept.holders lock ≡ Some (Some code.thread.number)))
     (sym (logs_have_locks code.thread.number t.old t.new w t.rest t.log))
-    (locks_are_held p code kept (left p code kept w t) plan orderly t.describes lock)
+    (locks_are_held p code kept t.late (left p code kept w t) plan orderly t.describes lock)
 
 pub durable_locks_are_apart : DurableLocksAreApart
 durable_locks_are_apart p codes kept w plan orderly describe g h lock gb hb eg eh =
@@ -89,9 +90,28 @@ module _ (p : Plan) (codes : Codes p) (kept : FlowState) (w : World) (describe :
   unfolding records
   record_is n below = by_is n below (cases_lt n (length p.graph.threads))
 
-  records_describe : AllDescribe p codes kept records
+  late_by : (n : ℕ) → (n < length p.graph.threads) ⊎ (length p.graph.threads ≤ n) → Bool
+  late_by n (inl below) = (describe n below).late
+  late_by n (inr past) = false
+
+  lates : ℕ → Bool
+  lates n = late_by n (cases_lt n (length p.graph.threads))
+
+  late_by_is : (n : ℕ) (below : n < length p.graph.threads) (c : (n < length p.graph.threads) ⊎ (length p.graph.threads ≤ n)) →
+      late_by n c ≡ (describe n below).late
+  unfolding late_by
+  late_by_is n below (inl other) = ap (λ (b : n < length p.graph.threads). (describe n b).late) (le_prop other below)
+  late_by_is n below (inr past) = absurd (let z : ⊥ = omega (arith, below, past) in z)
+
+  late_is : (n : ℕ) (below : n < length p.graph.threads) → lates n ≡ (describe n below).late
+  unfolding lates
+  late_is n below = late_by_is n below (cases_lt n (length p.graph.threads))
+
+  records_describe : AllDescribe p codes kept lates records
   unfolding left
-  records_describe n below = subst (λ (r : Record). Describes p (codes.each n below) kept r) (sym (record_is n below)) (describe n below).describes
+  records_describe n below =
+      subst (λ (late : Bool). DescribesAs p (codes.each n below) kept late (records n)) (sym (late_is n below))
+      (subst (λ (r : Record). DescribesAs p (codes.each n below) kept (describe n below).late r) (sym (record_is n below)) (describe n below).describes)
 
   points : (n : ℕ) (below : n < length p.graph.threads) → durable_point w.log w.words n ≡ (records n).point
   unfolding left
@@ -119,12 +139,13 @@ module _ (p : Plan) (codes : Codes p) (kept : FlowState) (w : World) (describe :
 
 pub durable_points_settle : DurablePointsSettle
 durable_points_settle p codes kept w orderly describe =
-    points_settle w.log p codes kept (records p codes kept w describe) w.words orderly (records_describe p codes kept w describe)
+    points_settle w.log p codes kept (lates p codes kept w describe) (records p codes kept w describe) w.words orderly (records_describe p codes kept w describe)
     (points p codes kept w describe)
 
 pub crashes_recover : CrashesRecover
 crashes_recover program p codes kept w count threads describe = record {
   records = records p codes kept w describe;
+  lates = lates p codes kept w describe;
   gathering = gathers program w (records p codes kept w describe) count (λ h below. points p codes kept w describe h (omega (arith, below, threads)))
       (λ h below. log_left p codes kept w describe program count threads h (omega (arith, below, threads)));
   describe = records_describe p codes kept w describe;
@@ -132,6 +153,6 @@ crashes_recover program p codes kept w count threads describe = record {
 
 pub recovering_describes : RecoveringDescribes
 recovering_describes p codes kept w threads to n below =
-    describes_by p (codes.each n below) kept w (to.records n)
+    describes_by p (codes.each n below) kept w (to.lates n) (to.records n)
     (subst (λ (k : ℕ). HasRecord w k (to.records n)) (sym (codes.number n below)) (to.gathering.logs n (omega (arith, below, threads))))
     (to.describe n below)

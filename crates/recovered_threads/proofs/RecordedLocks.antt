@@ -27,7 +27,7 @@ use Rattle.log_schemes.specs.SchemeFacts.{AreLoggable}
 use Rattle.log_states.proofs.Public.{contains_cases, contains_none, locks_kept}
 use Rattle.thread_code.specs.Plans.{Plan, Thread, IsThread, IsNodeOf, IsPlan, locks_held, locks_held_from, set_before, locks_before}
 use Rattle.thread_code.proofs.Public.{has_held, names_are}
-use Rattle.recovered_threads.specs.RecordDescriptions.{IsOrderly, between, inside, locks_of}
+use Rattle.recovered_threads.specs.RecordDescriptions.{Describes, Code, IsOrderly, between, inside, locks_of}
 use Rattle.recovered_threads.specs.Laws.{LocksAreHeld, PointsHaveLocks, RecordsAreApart}
 use Rattle.recovered_threads.proofs.HeldNumbers.{held_numbers}
 use Rattle.recovered_threads.proofs.NodesBeforeSteps.{left_at, standing_at}
@@ -171,29 +171,52 @@ between_locks r none = ap (λ (point : ℕ). cond (point == 0) [] r.locks) none
 pub inside_locks : (r : Record) → r.point ≢ 0 → locks_of r ≡ r.locks
 inside_locks r some = cond-false (r.point == 0) [] r.locks (ne_eqb r.point 0 some)
 
-pub locks_are_held : LocksAreHeld
-locks_are_held p code kept r plan orderly (between none point) lock = (
+-- the record of a thread that stands in a section has the locks that it holds there
+held_inside : (p : Plan) (code : Code p) (kept : FlowState) (r : Record) → IsPlan p → IsOrderly p kept → (graph_thread : GraphThread) →
+    slice_get kept.graph_threads code.thread.number ≡ Some graph_thread → IsNodeOf code.thread graph_thread.at → r.point ≢ 0 →
+    r.locks ≡ locks_before p code.thread graph_thread.locals graph_thread.at →
+    (lock : ℕ) → (has_lock (locks_of r) lock ≡ true) ↔ (slice_get kept.holders lock ≡ Some (Some code.thread.number))
+held_inside p code kept r plan orderly graph_thread there own point locks lock =
+    let same : locks_of r ≡ locks_before p code.thread graph_thread.locals graph_thread.at = inside_locks r point ∙ locks in
+    let held = numbers_are_held p kept plan orderly code.thread code.of graph_thread there own lock in
+    (λ e. held.0 (sym (ap (λ (ls : List ℕ). has_lock ls lock) same) ∙ e), λ g. ap (λ (ls : List ℕ). has_lock ls lock) same ∙ held.1 g)
+
+-- and some
+some_inside : (p : Plan) (code : Code p) (kept : FlowState) (r : Record) → IsPlan p → IsOrderly p kept → (graph_thread : GraphThread) →
+    slice_get kept.graph_threads code.thread.number ≡ Some graph_thread → IsNodeOf code.thread graph_thread.at → r.point ≢ 0 →
+    r.locks ≡ locks_before p code.thread graph_thread.locals graph_thread.at → holds_none kept.holders code.thread.number ≡ false → locks_of r ≡ [] → ⊥
+some_inside p code kept r plan orderly graph_thread there own point locks some none =
+    let is : locks_before p code.thread graph_thread.locals graph_thread.at ≡ [] = sym (inside_locks r point ∙ locks) ∙ none in
+    let empty = none_before p kept plan orderly code.thread code.of graph_thread there own ∙ ap is_empty is in
+    true≢false (sym empty ∙ some)
+
+held_on_time : (p : Plan) (code : Code p) (kept : FlowState) (r : Record) → IsPlan p → IsOrderly p kept → Describes p code kept r →
+    (lock : ℕ) → (has_lock (locks_of r) lock ≡ true) ↔ (slice_get kept.holders lock ≡ Some (Some code.thread.number))
+held_on_time p code kept r plan orderly (between none point) lock = (
   λ e. absurd (true≢false (sym e ∙ ap (λ (locks : List ℕ). has_lock locks lock) (between_locks r point))),
   λ g. absurd (holds_none_is code.thread.number kept.holders lock none g),
 )
-locks_are_held p code kept r plan orderly (inside some i) lock =
-    let same : locks_of r ≡ locks_before p code.thread i.graph_thread.locals i.graph_thread.at = inside_locks r i.point ∙ i.locks in
-    let held = numbers_are_held p kept plan orderly code.thread code.of i.graph_thread i.there i.own lock in
-    (λ e. held.0 (sym (ap (λ (locks : List ℕ). has_lock locks lock) same) ∙ e), λ g. ap (λ (locks : List ℕ). has_lock locks lock) same ∙ held.1 g)
+held_on_time p code kept r plan orderly (inside some i) lock = held_inside p code kept r plan orderly i.graph_thread i.there i.own i.point i.locks lock
+
+pub locks_are_held : LocksAreHeld
+locks_are_held p code kept false r plan orderly describes lock = held_on_time p code kept r plan orderly describes lock
+locks_are_held p code kept true r plan orderly past lock =
+    held_inside p code kept r plan orderly past.graph_thread past.there past.own past.point past.locks lock
 
 pub records_are_apart : RecordsAreApart
-records_are_apart p codes kept records plan orderly describe g h lock gb hb eg eh =
-    let one = (locks_are_held p (codes.each g gb) kept (records g) plan orderly (describe g gb) lock).0 eg in
-    let other = (locks_are_held p (codes.each h hb) kept (records h) plan orderly (describe h hb) lock).0 eh in
+records_are_apart p codes kept lates records plan orderly describe g h lock gb hb eg eh =
+    let one = (locks_are_held p (codes.each g gb) kept (lates g) (records g) plan orderly (describe g gb) lock).0 eg in
+    let other = (locks_are_held p (codes.each h hb) kept (lates h) (records h) plan orderly (describe h hb) lock).0 eh in
     let same = same_Some (codes.each g gb).thread.number (codes.each h hb).thread.number (same_Some _ _ (sym one ∙ other)) in
     sym (codes.number g gb) ∙ (same ∙ codes.number h hb)
 
+some_on_time : (p : Plan) (code : Code p) (kept : FlowState) (r : Record) → IsPlan p → IsOrderly p kept → Describes p code kept r →
+    (locks_of r ≡ []) ↔ (r.point ≡ 0)
+some_on_time p code kept r plan orderly (between none point) = (λ e. point, λ e. between_locks r point)
+some_on_time p code kept r plan orderly (inside some i) =
+    (λ e. absurd (some_inside p code kept r plan orderly i.graph_thread i.there i.own i.point i.locks some e), λ e. absurd (i.point e))
+
 pub points_have_locks : PointsHaveLocks
-points_have_locks p code kept r plan orderly (between none point) = (λ e. point, λ e. between_locks r point)
-points_have_locks p code kept r plan orderly (inside some i) = (
-  λ e.
-      let is : locks_before p code.thread i.graph_thread.locals i.graph_thread.at ≡ [] = sym (inside_locks r i.point ∙ i.locks) ∙ e in
-      let empty = none_before p kept plan orderly code.thread code.of i.graph_thread i.there i.own ∙ ap is_empty is in
-      absurd (true≢false (sym empty ∙ some)),
-  λ e. absurd (i.point e),
-)
+points_have_locks p code kept false r plan orderly describes = some_on_time p code kept r plan orderly describes
+points_have_locks p code kept true r plan orderly past =
+    (λ e. absurd (some_inside p code kept r plan orderly past.graph_thread past.there past.own past.point past.locks past.holds e), λ e. absurd (past.point e))

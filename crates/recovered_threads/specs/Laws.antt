@@ -1,5 +1,5 @@
 -- What follows from what the records of threads say of the kept state.
-use Rattle.std.specs.Prelude.{◌≡◌, ◌⊎◌, ◌↔◌, ℕ, ℤ, ◌%◌, ◌^◌, ◌<◌, List, [], length, slice_get, Contains, Option, Some, None, true, false}
+use Rattle.std.specs.Prelude.{◌≡◌, ◌⊎◌, ◌↔◌, ℕ, ℤ, ◌%◌, ◌^◌, ◌<◌, List, [], length, slice_get, Contains, Option, Some, None, Bool, true, false}
 use Rattle.c_tree.specs.Exprs.{LockName}
 use Rattle.log_schemes.specs.declared.log.Log.{Log}
 use Rattle.machine_events.specs.declared.event.Event.{Event}
@@ -32,9 +32,10 @@ use Rattle.thread_code.specs.Plans.{Plan, Thread, IsPlan, IsThread, IsNodeOf, Is
 use Rattle.thread_code.specs.RegistersAtNodes.{Enters, IsReady, LogView}
 use Rattle.thread_code.specs.NodeCodeEffects.{keeping, keeping_before, opens_section}
 use Rattle.recovered_threads.specs.RecordDescriptions.{Code, Codes, IsOrderly, Describes, AllDescribe, AreCounted, IsCountedWord, MayGoOn}
+use Rattle.recovered_threads.specs.RecordDescriptions.{DescribesAs, IsPastAssignment}
 use Rattle.recovered_threads.specs.RecordDescriptions.{NodePlace, the_core, the_entry, locks_of, words_in}
 use Rattle.recovered_threads.specs.Machines.{LogDescribes, LogsDescribe, RecoversTo}
-use Rattle.recovered_threads.specs.RecoveryStates.{IsRecoveredHart, AreGathering, AreGathered, AreRecovering, StoresApart, Awaits, ResumesThread}
+use Rattle.recovered_threads.specs.RecoveryStates.{IsRecoveredHart, AreGathering, AreGathered, AreRecovering, StoresApart, Awaits, ResumesLate, ResumesThread}
 use Rattle.machine_model.specs.Schedule.{KeepsOn}
 
 -- ---- States
@@ -49,18 +50,18 @@ StepsOrderly = (p : Plan) (s next : FlowState) (thread : ℕ) → IsPlan p → I
 
 -- in a plan's first state no thread has recorded anything
 abbrev pub StartsTold : Type 0
-StartsTold = (p : Plan) (codes : Codes p) → AllDescribe p codes (graph_start p.graph p.flat) (λ n. nothing_recorded)
+StartsTold = (p : Plan) (codes : Codes p) → AllDescribe p codes (graph_start p.graph p.flat) (λ n. false) (λ n. nothing_recorded)
 
 -- ---- Locks
 
 -- the locks of a record are those that its thread holds in the kept state
 abbrev pub LocksAreHeld : Type 0
-LocksAreHeld = (p : Plan) (code : Code p) (kept : FlowState) (r : Record) → IsPlan p → IsOrderly p kept → Describes p code kept r →
+LocksAreHeld = (p : Plan) (code : Code p) (kept : FlowState) (late : Bool) (r : Record) → IsPlan p → IsOrderly p kept → DescribesAs p code kept late r →
     (lock : ℕ) → (has_lock (locks_of r) lock ≡ true) ↔ (slice_get kept.holders lock ≡ Some (Some code.thread.number))
 
 -- a record has no locks exactly where it has no point
 abbrev pub PointsHaveLocks : Type 0
-PointsHaveLocks = (p : Plan) (code : Code p) (kept : FlowState) (r : Record) → IsPlan p → IsOrderly p kept → Describes p code kept r →
+PointsHaveLocks = (p : Plan) (code : Code p) (kept : FlowState) (late : Bool) (r : Record) → IsPlan p → IsOrderly p kept → DescribesAs p code kept late r →
     (locks_of r ≡ []) ↔ (r.point ≡ 0)
 
 -- at each moment of a boundary they are what the durable log has, and a crash would leave
@@ -74,7 +75,8 @@ AreRecordsApart count records = (g h lock : ℕ) → g < count → h < count →
     has_lock (locks_of (records h)) lock ≡ true → g ≡ h
 
 abbrev pub RecordsAreApart : Type 0
-RecordsAreApart = (p : Plan) (codes : Codes p) (kept : FlowState) (records : ℕ → Record) → IsPlan p → IsOrderly p kept → AllDescribe p codes kept records →
+RecordsAreApart = (p : Plan) (codes : Codes p) (kept : FlowState) (lates : ℕ → Bool) (records : ℕ → Record) → IsPlan p → IsOrderly p kept →
+    AllDescribe p codes kept lates records →
     AreRecordsApart (length p.graph.threads) records
 
 -- ---- Recovery
@@ -114,13 +116,13 @@ EventsRecover =
 
 -- once none takes locks any more, the machine's locks are held exactly as the kept state's
 abbrev pub GatheredAreKept : Type 0
-GatheredAreKept = (p : Plan) (codes : Codes p) (kept : FlowState) (w : World) (records : ℕ → Record) → IsPlan p → IsOrderly p kept →
-    AllDescribe p codes kept records → AreGathering w records → ((g : ℕ) → ¬ (IsInPhase w g Take)) → length w.harts ≡ length p.graph.threads →
+GatheredAreKept = (p : Plan) (codes : Codes p) (kept : FlowState) (w : World) (lates : ℕ → Bool) (records : ℕ → Record) → IsPlan p → IsOrderly p kept →
+    AllDescribe p codes kept lates records → AreGathering w records → ((g : ℕ) → ¬ (IsInPhase w g Take)) → length w.harts ≡ length p.graph.threads →
     length w.holders ≡ length kept.holders → w.holders ≡ kept.holders
 
 -- a hart that is ready to go on holds exactly the locks that its thread holds in the kept state
 abbrev pub ReadyAsKept : Type 0
-ReadyAsKept = (p : Plan) (code : Code p) (kept : FlowState) (w : World) (r : Record) → IsPlan p → IsOrderly p kept → Describes p code kept r →
+ReadyAsKept = (p : Plan) (code : Code p) (kept : FlowState) (w : World) (late : Bool) (r : Record) → IsPlan p → IsOrderly p kept → DescribesAs p code kept late r →
     IsRecoveredHart w code.thread.number r → length w.holders ≡ length kept.holders →
     (lock : ℕ) → (slice_get w.holders lock ≡ Some (Some code.thread.number)) ↔ (slice_get kept.holders lock ≡ Some (Some code.thread.number))
 
@@ -128,6 +130,12 @@ ReadyAsKept = (p : Plan) (code : Code p) (kept : FlowState) (w : World) (r : Rec
 abbrev pub HartsGoOn : Type 0
 HartsGoOn = (program : List (List Slot)) (p : Plan) (code : Code p) (kept : FlowState) (w : World) (r : Record) → p.log ≡ w.log → Describes p code kept r →
     IsRecoveredHart w code.thread.number r → (i : IsInPhase w code.thread.number Resume) → ResumesThread program code kept w i.hart r
+
+-- and where it stands past a logged assignment, at the core of that, with the number that its local has
+abbrev pub LateHartsGoOn : Type 0
+LateHartsGoOn = (program : List (List Slot)) (p : Plan) (code : Code p) (kept : FlowState) (w : World) (r : Record) → p.log ≡ w.log →
+    IsPastAssignment p code kept r → IsRecoveredHart w code.thread.number r → (i : IsInPhase w code.thread.number Resume) →
+    ResumesLate program code kept w i.hart r
 
 -- ---- Words of the frame
 
@@ -201,15 +209,15 @@ AssignsAlike p t kept after = (graph_thread : GraphThread) (is : Node) → slice
 
 -- the records of the others go on to describe the kept state, where their threads, what these hold, and what they assign next are kept as they were
 abbrev pub OthersDescribe : Type 0
-OthersDescribe = (p : Plan) (code : Code p) (kept after : FlowState) (r : Record) → Describes p code kept r →
+OthersDescribe = (p : Plan) (code : Code p) (kept after : FlowState) (late : Bool) (r : Record) → DescribesAs p code kept late r →
     slice_get after.graph_threads code.thread.number ≡ slice_get kept.graph_threads code.thread.number →
-    held_by code.thread.number after.holders ≡ held_by code.thread.number kept.holders → AssignsAlike p code.thread kept after → Describes p code after r
+    held_by code.thread.number after.holders ≡ held_by code.thread.number kept.holders → AssignsAlike p code.thread kept after → DescribesAs p code after late r
 
 -- all durable points are 0 exactly where no mutex is held in the kept state
 abbrev pub PointsSettle : Type 0
 PointsSettle =
-    (log : Log) (p : Plan) (codes : Codes p) (kept : FlowState) (records : ℕ → Record) (words : List Word) → IsOrderly p kept →
-    AllDescribe p codes kept records →
+    (log : Log) (p : Plan) (codes : Codes p) (kept : FlowState) (lates : ℕ → Bool) (records : ℕ → Record) (words : List Word) → IsOrderly p kept →
+    AllDescribe p codes kept lates records →
     ((n : ℕ) → n < length p.graph.threads → durable_point log words n ≡ (records n).point) →
     ((n : ℕ) → n < length p.graph.threads → durable_point log words n ≡ 0) ↔
     ((lock : ℕ) (holder : Option ℕ) → slice_get kept.holders lock ≡ Some holder → holder ≡ None)

@@ -1,5 +1,5 @@
 -- What the records of threads' logs say of the kept state.
-use Rattle.std.specs.Prelude.{◌≡◌, ◌≢◌, ◌↔◌, ℕ, ℤ, ◌<◌, List, [], length, slice_get, Contains, Option, Some, None, true, false, ◌==◌, if◌then◌else◌}
+use Rattle.std.specs.Prelude.{◌≡◌, ◌≢◌, ◌↔◌, ℕ, ℤ, ◌<◌, List, [], length, slice_get, Contains, Option, Some, None, Bool, true, false, ◌==◌, if◌then◌else◌}
 use Rattle.c_tree.specs.Exprs.{LockName}
 use Rattle.ido_base.specs.Locks.{holds_none}
 use Rattle.c_tree.specs.Source as m
@@ -128,6 +128,37 @@ pub data Describes (p : Plan) (code : Code p) (kept : FlowState) (r : Record) : 
   between : holds_none kept.holders code.thread.number ≡ true → r.point ≡ 0 → Describes p code kept r
   inside : holds_none kept.holders code.thread.number ≡ false → IsInside p code kept r → Describes p code kept r
 
+-- the thread stands at the node after a logged assignment, and its record is one of the boundary before that: where it is resumed it stores again what its local
+-- has. So it is of a record whose number isn't the one that the assignment gives: no run leaves such a one
+pub record IsPastAssignment (p : Plan) (code : Code p) (kept : FlowState) (r : Record) : Type 0 where
+  pub holds : holds_none kept.holders code.thread.number ≡ false
+  pub graph_thread : GraphThread
+  pub there : slice_get kept.graph_threads code.thread.number ≡ Some graph_thread
+  pub goes_on : graph_thread.ended ≡ false
+  pub own : IsNodeOf code.thread graph_thread.at
+  pub point : r.point ≢ 0
+  pub locks : r.locks ≡ locks_before p code.thread graph_thread.locals graph_thread.at
+  -- the assignment
+  pub node : ℕ
+  pub own_node : IsNodeOf code.thread node
+  pub logged : IsLogged p code.thread node
+  pub goes : logged.assigns.next ≡ graph_thread.at
+  pub owed : ℤ
+  pub number : slice_get graph_thread.locals logged.local ≡ Some owed
+  -- the record is what the boundary before its core keeps
+  pub chosen : IsChosen p.graph p.boundaries node
+  pub resumes : resume_of r.point ≡ code.is.places.core node
+  pub live : r.live ≡ registers_kept code.is.places node the_core
+  pub framed : AreCounted p code.thread node the_core r.framed
+  pub view : LogView
+  pub frame : (word : ℕ) → Contains r.framed word → r.frame word ≡ words_in p.log code.thread.number view word
+  pub ready : IsReady p code.thread node (seen_by kept graph_thread) view owed r.registers
+
+-- what a record says, where its thread stands late by one assignment or not
+abbrev pub DescribesAs : (p : Plan) → Code p → FlowState → (late : Bool) → Record → Type 0
+DescribesAs p code kept false r = Describes p code kept r
+DescribesAs p code kept true r = IsPastAssignment p code kept r
+
 -- the records of all threads, by their numbers
-abbrev pub AllDescribe : (p : Plan) → Codes p → FlowState → (records : ℕ → Record) → Type 0
-AllDescribe p codes kept records = (n : ℕ) (below : n < length p.graph.threads) → Describes p (codes.each n below) kept (records n)
+abbrev pub AllDescribe : (p : Plan) → Codes p → FlowState → (lates : ℕ → Bool) → (records : ℕ → Record) → Type 0
+AllDescribe p codes kept lates records = (n : ℕ) (below : n < length p.graph.threads) → DescribesAs p (codes.each n below) kept (lates n) (records n)

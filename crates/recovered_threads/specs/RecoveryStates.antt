@@ -18,8 +18,8 @@ use Rattle.code_runs.specs.ComputingRuns.{config}
 use Rattle.hart_runs.specs.Calls.{IsInPhase}
 use Rattle.hart_runs.specs.HartsOnRuns.{IsRunningAt}
 use Rattle.thread_code.specs.Plans.{Plan}
-use Rattle.thread_code.specs.RegistersAtNodes.{LogView}
-use Rattle.recovered_threads.specs.RecordDescriptions.{Code, IsCountedWord, IsInside, MayGoOn, locks_of, words_in}
+use Rattle.thread_code.specs.RegistersAtNodes.{IsReady, LogView}
+use Rattle.recovered_threads.specs.RecordDescriptions.{Code, IsCountedWord, IsInside, IsPastAssignment, MayGoOn, locks_of, the_core, words_in}
 
 -- the hart holds all locks of the record that there are
 abbrev pub HoldsAll : World → (h : ℕ) → Record → Type 0
@@ -113,4 +113,18 @@ pub record ResumesThread {p : Plan} (program : List (List Slot)) (code : Code p)
   pub at_record : IsAtRecord w.log r (side_of r) after.registers
   pub queue : after.queue ≡ hart.queue
   -- a run begins from where the thread is resumed
+  pub begins : IsRunningAt (after_event program w (Step code.thread.number)) code.thread.number (config after.registers after.pc)
+
+-- a step that resumes a thread past a logged assignment: it goes on at the core of that
+pub record ResumesLate {p : Plan} (program : List (List Slot)) (code : Code p) (kept : FlowState) (w : World) (hart : Hart) (r : Record) : Type 0 where
+  pub told : IsPastAssignment p code kept r
+  pub after : Hart
+  pub does : happens program w (Step code.thread.number) ≡ moved w code.thread.number after
+  pub runs : after.phase ≡ Run
+  pub pc : after.pc ≡ resume_of r.point
+  pub ready : IsReady p code.thread told.node (seen_by kept told.graph_thread) (view_resumed r told.view) told.owed after.registers
+  pub frame : (word : ℕ) → IsCountedWord p code.thread told.node the_core word →
+      IsDurable (frame_in w.log w.words code.thread.number word) (words_in p.log code.thread.number told.view word)
+  pub at_record : IsAtRecord w.log r (side_of r) after.registers
+  pub queue : after.queue ≡ hart.queue
   pub begins : IsRunningAt (after_event program w (Step code.thread.number)) code.thread.number (config after.registers after.pc)

@@ -2,6 +2,7 @@
 ghost use Rattle.recovered_threads.specs.Laws.{AssignedIsApart, WordsAreListed, WordsExist};
 ghost use Rattle.recovered_threads.specs.Laws.{BoundariesRecover, CommitsDescribe, CrashesAgain, CrashesGather, CrashesRecover, DurableLocksAreApart};
 ghost use Rattle.recovered_threads.specs.Laws.{DurableLocksAreHeld, DurablePointsSettle, EventsRecover, GatheredAreKept, GatheredGoOn, HartsGoOn, LocksAreHeld};
+ghost use Rattle.recovered_threads.specs.Laws.{LateHartsGoOn};
 ghost use Rattle.recovered_threads.specs.Laws.{LogsHaveLocks, OthersDescribe, PointsHaveLocks, PointsSettle, ReadyAsKept, RecoveringDescribes, RecordsAreApart};
 ghost use Rattle.recovered_threads.specs.Laws.{StartsOrderly, StartsDescribe, StartsTold, StepsOrderly, TakesNeverWait, UnlocksEnter, WaitsForTakers};
 
@@ -35,9 +36,10 @@ pub fn locks_are_gathered()
 {}
 
 /// A hart goes on where its record says, with registers that represent what its thread sees in the kept state, and with the words of its frame on
-/// which it counts there.
+/// which it counts there; and where it has made a logged assignment that its record tells, it goes on at the core of that.
 pub fn harts_go_on()
-    ensures { HartsGoOn }
+    ensures there { HartsGoOn }
+    ensures late { LateHartsGoOn }
 {}
 
 /// The words of its frame in which those locals stand on which a thread counts at a node can be listed: they exist, and the word that a logged

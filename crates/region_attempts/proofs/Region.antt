@@ -1,13 +1,16 @@
 -- A longest attempt is a path within a region of the graph.
 use Rattle.std.proofs.Common.{◌≡◌, ◌≢◌, ◌⊎◌, inl, inr, refl, ℕ, zero, suc, ◌<◌, List, [], ◌∷◌, replicate}
+use Rattle.c_tree.specs.Exprs as e
 use Rattle.c_tree.specs.Exprs.{LockName}
+use Rattle.ido_base.specs.declared.place.Place.{Place}
+use Rattle.ido_ints.specs.declared.kinds.Kind.{Kind}
 use Rattle.std.proofs.Common.{sym, ◌∙◌, ap, subst, arith, Option, Some, None, Bool, true, false, ⊎_elim}
 use Rattle.std.specs.Prelude.{slice_get, Contains, IsTrue}
 use Rattle.std.specs.Option.{option_map, unwrap_or}
 use Rattle.ido_base.specs.declared.location.Location.{Location}
 use Rattle.ido_base.specs.Locations.{overlap, same}
 use Rattle.c_tree.specs.Flats as f
-use Rattle.flow_graph.specs.Nodes.{Action, Lock, Unlock, Node, Graph, successors}
+use Rattle.flow_graph.specs.Nodes.{Action, Eval, Lock, Unlock, Node, Graph, successors}
 use Rattle.flow_graph.specs.Lowering.{lowered, threads_nodes}
 use Rattle.flow_graph.specs.Liveness.{NodeAt}
 use Rattle.flow_graph.specs.Actions.{GraphThread, FlowState, Ends, effect_of, seen_by}
@@ -18,7 +21,7 @@ use Rattle.recovery_semantics.specs.Attempts.{solo}
 use Rattle.recovery_semantics.specs.Configs.{attempt_of}
 use Rattle.recovery_semantics.proofs.Public.{none_some}
 use Rattle.region_attempts.specs.GraphStates.{flow_solo, node_after}
-use Rattle.region_attempts.specs.AttemptsInRegion.{Resumes, begins, past_unlock, StaysInside}
+use Rattle.region_attempts.specs.AttemptsInRegion.{AssignsLocal, Resumes, begins, past_assignment, past_unlock, StaysInside}
 use Rattle.region_attempts.proofs.StepBisimulation.{IsThere, is_there}
 use Rattle.region_attempts.proofs.GraphConfigs.{GraphConfig}
 use Rattle.region_attempts.proofs.GraphRuns.{OwnStep, own_step, inner_runs, matched_run}
@@ -66,6 +69,24 @@ unlock_writes_none x k node (unlocks n lock next at is) here =
     let none : n.writes ≡ None = subst (λ (a : Action). ShapedBy shape.0 (threads_nodes x x.threads 0) n a) is shape.1 in
     ap (λ (z : Node). z.writes) (sym same_node) ∙ none
 
+-- nor does an assignment of a local
+assigns_or_lock : (lock : LockName) (next after : ℕ) (place : Place) (local : ℕ) (kind : Kind) (value : e.Placed) →
+    Lock lock next ≡ Eval (e.ToLocal place local kind) value after → ⊥
+assigns_or_lock lock next after place local kind value h = cc
+
+assigns_no_lock : (g : Graph) (k : ℕ) → IsLock g k → AssignsLocal g k → ⊥
+assigns_no_lock g k (locks n lock next at is) a =
+    assigns_or_lock lock next a.next a.place a.local a.kind a.value
+    (sym is ∙ (ap (λ (z : Node). z.action) (one_node g k n a.is at a.at) ∙ a.action))
+
+assigns_writes_none : (x : f.Flat) (k : ℕ) (node : Node) → AssignsLocal (lowered x) k → NodeAt (lowered x) k node → node.writes ≡ None
+assigns_writes_none x k node a here =
+    let same_node = one_node (lowered x) k a.is node a.at here in
+    let shape = node_shaped x k a.is (nodes_at x k a.is a.at) in
+    let shaped : ShapedBy shape.0 (threads_nodes x x.threads 0) a.is (Eval (e.ToLocal a.place a.local a.kind) a.value a.next) =
+    subst (λ (z : Action). ShapedBy shape.0 (threads_nodes x x.threads 0) a.is z) a.action shape.1 in
+    ap (λ (z : Node). z.writes) (sym same_node) ∙ shaped.writes
+
 -- what is read at a place of a path is overwritten later on it
 pub record IsOverwritten (g : Graph) (path : List ℕ) (i : ℕ) (read : Location) : Type 0 where
   pub later : ℕ
@@ -86,12 +107,16 @@ module _ (x : f.Flat) (b : Boundaries) (cuts : AreCuts (lowered x) b) (first : �
   at_begin : BeginsRegion g b first → Before
   at_begin h = cuts.idempotent first rest h inside i o.later read o.written o.above o.reads o.writes o.meet
 
-  after_by : (from : ℕ) → IsUnlock g from → (q : ℕ) (l : Location) → q < suc i → WritesAt g (from ∷ first ∷ rest) q l → IsTrue (same l read) → Before
+  -- a node that takes no mutex, and writes nothing
+  record IsQuiet (from : ℕ) : Type 0 where
+    no_lock : IsLock g from → ⊥
+    none : (node : Node) → NodeAt g from node → node.writes ≡ None
+
+  after_by : (from : ℕ) → IsQuiet from → (q : ℕ) (l : Location) → q < suc i → WritesAt g (from ∷ first ∷ rest) q l → IsTrue (same l read) → Before
   after_by from u zero l low wr is =
       let here : from ≡ wr.node = let h = wr.there in cc in
       let at : NodeAt g from wr.is = ap (slice_get g.nodes) here ∙ wr.at in
-      let none = unlock_writes_none x from wr.is u at in
-      absurd (none_some l (sym none ∙ wr.writes))
+      absurd (none_some l (sym (u.none wr.is at) ∙ wr.writes))
   after_by from u (suc q) l low wr is = record {
     earlier = q;
     written = l;
@@ -100,19 +125,27 @@ module _ (x : f.Flat) (b : Boundaries) (cuts : AreCuts (lowered x) b) (first : �
     is = is;
   }
 
-  after : (from : ℕ) → IsUnlock g from → IsEdge g from first → ¬ (HasBefore b first) → Before
-  after from u edge free =
-      let longer = goes_on from first rest edge (λ p. ⊎_elim (λ h. not_lock g from h.locks u) free p) inside in
-      let before = cuts.idempotent from (first ∷ rest) (at_boundary (cuts.before_unlocks from u)) longer (suc i) (suc o.later) read o.written
+  after : (from : ℕ) → IsQuiet from → HasBefore b from → IsEdge g from first → ¬ (HasBefore b first) → Before
+  after from u stands edge free =
+      let longer = goes_on from first rest edge (λ p. ⊎_elim (λ h. u.no_lock h.locks) free p) inside in
+      let before = cuts.idempotent from (first ∷ rest) (at_boundary stands) longer (suc i) (suc o.later) read o.written
       (let above = o.above in omega (arith, above))
       (record { node = o.reads.node; is = o.reads.is; there = o.reads.there; at = o.reads.at; reads = o.reads.reads })
       (record { node = o.writes.node; is = o.writes.is; there = o.writes.there; at = o.writes.at; writes = o.writes.writes }) o.meet in
       after_by from u before.earlier before.written before.before before.writes before.is
 
-  -- what is overwritten was written before where a region begins, and after an unlock too
+  -- from a node after it, before which none stands or one does
+  past : (from : ℕ) → IsQuiet from → HasBefore b from → IsEdge g from first → Before
+  past from u stands edge =
+      ⊎_elim (λ h. at_begin (at_boundary h)) (λ free. after from u stands edge free) (decide_true (slice_get b.before first))
+
+  -- what is overwritten was written before where a region begins, and after an unlock too, or an assignment
   pub written_before : Resumes g b first → Before
   written_before (begins h) = at_begin h
-  written_before (past_unlock from u edge) = ⊎_elim (λ h. at_begin (at_boundary h)) (λ free. after from u edge free) (decide_true (slice_get b.before first))
+  written_before (past_unlock from u edge) =
+      past from (record { no_lock = λ l. not_lock g from l u; none = λ node at. unlock_writes_none x from node u at }) (cuts.before_unlocks from u) edge
+  written_before (past_assignment from stands assigns edge) =
+      past from (record { no_lock = λ l. assigns_no_lock g from l assigns; none = λ node at. assigns_writes_none x from node assigns at }) stands edge
 
 -- ---- The longest attempt
 

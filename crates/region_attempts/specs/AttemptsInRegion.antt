@@ -1,8 +1,12 @@
 -- Attempts that stay within a region.
 use Rattle.std.specs.Prelude.{◌≡◌, ◌⊎◌, ℕ, ◌<◌, List, slice_get, Some}
+use Rattle.ido_base.specs.declared.place.Place.{Place}
+use Rattle.ido_ints.specs.declared.kinds.Kind.{Kind}
+use Rattle.c_tree.specs.Exprs as e
 use Rattle.c_tree.specs.Flats as f
 use Rattle.flow_graph.specs.Lowering.{lowered}
-use Rattle.flow_graph.specs.Nodes.{Graph}
+use Rattle.flow_graph.specs.Nodes.{Eval, Graph, Node}
+use Rattle.flow_graph.specs.Liveness.{NodeAt}
 use Rattle.flow_graph.specs.Actions.{FlowState}
 use Rattle.flow_graph.specs.IdempotentCuts.{Boundaries, IsEdge, IsUnlock, HasBefore, BeginsRegion}
 use Rattle.recovery_semantics.specs.Attempts.{PassesMutex, solo}
@@ -13,10 +17,23 @@ use Rattle.recovery_semantics.specs.Executions.{Execution, then}
 use Rattle.region_attempts.specs.Origins.{Origin}
 use Rattle.region_attempts.specs.GraphStates.{flow_kept, node_of, node_after}
 
--- where a thread goes on once its steps are kept: where a region begins, or after an unlock, which has its boundary before it
+-- an assignment of a local
+pub record AssignsLocal (g : Graph) (node : ℕ) : Type 0 where
+  pub is : Node
+  pub at : NodeAt g node is
+  pub place : Place
+  pub local : ℕ
+  pub kind : Kind
+  pub value : e.Placed
+  pub next : ℕ
+  pub action : is.action ≡ Eval (e.ToLocal place local kind) value next
+
+-- where a thread goes on once its steps are kept: where a region begins, or after an unlock, which has its boundary before it; and where an execution begins
+-- also after an assignment that has one before it
 pub data Resumes (g : Graph) (b : Boundaries) (node : ℕ) : Type 0 where
   begins : BeginsRegion g b node → Resumes g b node
   past_unlock : (from : ℕ) → IsUnlock g from → IsEdge g from node → Resumes g b node
+  past_assignment : (from : ℕ) → HasBefore b from → AssignsLocal g from → IsEdge g from node → Resumes g b node
 
 -- what an attempt says of the boundaries on its way
 pub record StaysInside (x : f.Flat) (b : Boundaries) (kept : FlowState) (m : Config) (thread : ℕ) : Type 0 where

@@ -206,7 +206,7 @@ module _ {y : System} {s : IsSystem y} {w : World} {h : ℕ} (site : Site y s w 
             frame = subst (λ (r : Record). HasFrame w.log n r w.words) new (frame_found w.log n i.old i.new at i.log address bytes value i.later refl there);
             describes = describes;
             taken = λ lock among.
-                held.holds lock n ((locks_are_held y.plan code (now_of y b) c.new s.plan (now_orderly y s b) describes lock).0 among);
+                held.holds lock n ((locks_are_held y.plan code (now_of y b) false c.new s.plan (now_orderly y s b) describes lock).0 among);
             stored = last_durable rest new before;
             stable = λ v e writes. durable rest before v e (written_by (flat_of y) b.config n (resumed y s b).resumed.invariant v e writes);
           }

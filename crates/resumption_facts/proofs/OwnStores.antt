@@ -1,4 +1,8 @@
 -- What the next store of a hart is: one to a variable, one to its own frame, or the first effect of its boundary, which is under way or begins.
+use Rattle.crash_simulation.proofs.Public.{past_mark, past_stores, past_word}
+use Rattle.crash_simulation.specs.InstructionSteps.{AtPastNow}
+use Rattle.std.proofs.Common.{Bool, false}
+use Rattle.recovered_threads.specs.RecordDescriptions.{DescribesAs}
 use Rattle.std.proofs.Common.{◌≡◌, ◌≢◌, ◌⊎◌, inl, inr, refl, ℕ, ℤ, ◌+◌, ◌*◌, ◌<◌, ◌≤◌, suc, List, [], ◌∷◌, ◌++◌, ap, sym, ◌∙◌, subst}
 use Rattle.std.proofs.Common.{Bool, true, false, Some, is_some, option_map, slice_get, if◌then◌else◌}
 use Rattle.std.proofs.lemmas.Bool.{true≢false}
@@ -99,7 +103,7 @@ module _ {y : System} {s : IsSystem y} {w : World} {h : ℕ} (site : Site y s w 
     pub address_is : address ≡ frame_at w.log n own
     pub bytes_are : bytes ≡ 8
     pub over : c.rest ≡ []
-    pub stands : (c.new.point ≡ 0) ⊎ (t.log.hart.pc ≡ resume_of c.new.point)
+    pub stands : c.late ≡ false → (c.new.point ≡ 0) ⊎ (t.log.hart.pc ≡ resume_of c.new.point)
 
   pub data IsStored (address bytes value : ℕ) : Type 0 where
     to_element : IsToElement address bytes → IsStored address bytes value
@@ -258,8 +262,9 @@ module _ {y : System} {s : IsSystem y} {w : World} {h : ℕ} (site : Site y s w 
             address_is = ap first_address first ∙ own.is;
             bytes_are = ap first_bytes first;
             over = core.goes.goes.rest;
-            stands = resumes_here chosen (subst (λ (done : Bool). Describes y.plan code (kept_of y b) (if done then c.new else c.old)) core.goes.goes.committed
-                t.records.describes);
+            stands = λ on_time. resumes_here chosen (subst (λ (late : Bool). DescribesAs y.plan code (kept_of y b) late c.new) on_time
+                (subst (λ (done : Bool). DescribesAs y.plan code (kept_of y b) c.late (if done then c.new else c.old)) core.goes.goes.committed
+                t.records.describes));
           })
 
       -- where locals stand in the frame a boundary stands before a node that makes a store
@@ -344,14 +349,31 @@ module _ {y : System} {s : IsSystem y} {w : World} {h : ℕ} (site : Site y s w 
           address_is = ap address_of is ∙ own.is;
           bytes_are = ap bytes_stored is;
           over = o.fits.0.goes.rest;
-          stands = inl o.fits.1;
+          stands = λ on_time. inl o.fits.1;
+        })
+
+    -- once more the local of a logged assignment that its thread is past
+    by_past : AtPastNow site → Stored
+    by_past o =
+        let m = past_mark site o in
+        let own = past_word site o in
+        let same : m.at.on.hart ≡ hart = same_there (slice_get w.harts n) m.at.on.hart hart m.at.on.here next.here in
+        let is = past_stores site o store (m.at.made store (ap (effect_at y.runs.program n) same ∙ next.is)) in
+        to_frame (record {
+          own = own.word;
+          framed = record { frame = own.framed; exists = own.exists };
+          address_is = ap address_of is ∙ own.is;
+          bytes_are = ap bytes_stored is;
+          over = o.goes.goes.rest;
+          stands = λ on_time. absurd (true≢false (sym o.late ∙ on_time));
         })
 
     -- ---- Wherever it is
 
     pub own_store : FragmentsGoOn → MarksPass → AreHeld w stands.ghosts (now_of y b) → IsReadyToStep site → Stored
     own_store law marks held (moving.on_fragment exit left o) = in_fragment law exit left o
-    own_store law marks held (moving.stores_local from local number o) = by_local from local number o
+    own_store law marks held (moving.stores_local (moving.outside from local number o)) = by_local from local number o
+    own_store law marks held (moving.stores_local (moving.again o)) = by_past o
     own_store law marks held (moving.at_core core free) = at_node marks core free
     own_store law marks held (moving.calls exit o calling) =
         let at = calls_now site held exit o calling in

@@ -25,7 +25,7 @@ use Rattle.crash_simulation.specs.Laws.{EventsStand}
 use Rattle.crash_simulation.specs.SimulationRelation.{AreHeld, AreLocked, Simulates, gathered, gathering, records_of}
 use Rattle.crash_simulation.specs.Systems.{System, IsSystem, flat_of, thread_count}
 use Rattle.crash_simulation.specs.ThreadGhosts.{Rests, ThreadGhost}
-use Rattle.crash_simulation.proofs.Public.{as_source, giving_of, left, left_describes, left_kept, log_of, orderly, phase_of, resumed}
+use Rattle.crash_simulation.proofs.Public.{as_source, giving_of, left, lates, left_describes, left_kept, log_of, orderly, phase_of, resumed}
 use Rattle.compiler_correctness.specs.Compilation.{HartHolds}
 use Rattle.compiler_correctness.specs.Laws.{MachinesRecord, translation_of}
 use Rattle.compiler_correctness.specs.Translations.{world}
@@ -61,7 +61,7 @@ module _ (y : System) (s : IsSystem y) (w : World) (stands : Simulates y s w) (h
   pub recorded_is_kept : (lock : ℕ) → IsRecorded w h lock → IsKept lock
   recorded_is_kept lock among =
       ap (λ (hs : List (Option ℕ)). slice_get hs lock) (sym (as_source y s b).kept_matches.holders)
-      ∙ ((locks_are_held y.plan (s.codes.each h below) (kept_of y b) (left y s w stands h) s.plan (orderly y s b)
+      ∙ ((locks_are_held y.plan (s.codes.each h below) (kept_of y b) (lates y s w stands h) (left y s w stands h) s.plan (orderly y s b)
       (left_describes y s w stands h below) lock).0
       (ap (λ (locks : List ℕ). has_lock locks lock) (sym (logs_have_locks h ghost.old ghost.new w ghost.rest (log_of y s w stands h below))) ∙ among)
       ∙ ap (λ (k : ℕ). Some (Some k)) (s.codes.number h below))

@@ -1,5 +1,6 @@
 -- A hart that is resumed has the registers that it has recorded.
-use Rattle.std.proofs.Common.{◌≡◌, refl, ℕ, ◌<◌, List, [], length, ap, sym, ◌∙◌, subst, Bool, Contains, slice_get, slice_set, if◌then◌else◌, arith}
+use Rattle.recovered_threads.specs.RecordDescriptions.{DescribesAs}
+use Rattle.std.proofs.Common.{◌≡◌, refl, ℕ, ◌<◌, List, [], length, ap, sym, ◌∙◌, subst, Bool, false, Contains, slice_get, slice_set, if◌then◌else◌, arith}
 use Rattle.std.proofs.lemmas.Option.{slice_get_within}
 use Rattle.machine_events.specs.declared.event.Event.TheVariants.{Step}
 use Rattle.c_tree.specs.Source.{State}
@@ -70,38 +71,40 @@ module _ (y : System) (s : IsSystem y) (w : World) (stands : Simulates y s w) (h
   ready : IsRecoveredHart w h ghost.new
   ready = ready_by stands.locks
 
-  describes : Describes y.plan code (kept_of y b) ghost.new
-  describes =
-      subst (λ (done : Bool). Describes y.plan code (kept_of y b) (if done then ghost.new else ghost.old)) rests.committed
-      (stands.each h below).records.describes
+  module _ (on_time : ghost.late ≡ false) where
+    describes : Describes y.plan code (kept_of y b) ghost.new
+    describes =
+        subst (λ (late : Bool). DescribesAs y.plan code (kept_of y b) late ghost.new) on_time
+        (subst (λ (done : Bool). DescribesAs y.plan code (kept_of y b) ghost.late (if done then ghost.new else ghost.old)) rests.committed
+        (stands.each h below).records.describes)
 
-  pub goes : ResumesThread y.runs.program code (kept_of y b) w i.hart ghost.new
-  goes =
-      harts_go_on y.runs.program y.plan code (kept_of y b) w ghost.new stands.machine.log describes
-      (subst (λ (k : ℕ). IsRecoveredHart w k ghost.new) (sym (s.codes.number h below)) ready)
-      (record { hart = i.hart; here = ap (slice_get w.harts) (s.codes.number h below) ∙ i.here; phase_is = i.phase_is })
+    pub goes : ResumesThread y.runs.program code (kept_of y b) w i.hart ghost.new
+    goes =
+        harts_go_on y.runs.program y.plan code (kept_of y b) w ghost.new stands.machine.log describes
+        (subst (λ (k : ℕ). IsRecoveredHart w k ghost.new) (sym (s.codes.number h below)) ready)
+        (record { hart = i.hart; here = ap (slice_get w.harts) (s.codes.number h below) ∙ i.here; phase_is = i.phase_is })
 
-  -- its log has the record
-  pub recorded : IsRecorded w.log h ghost.new w.words
-  recorded = let log = ready.log in ends w.log h nothing_recorded ghost.new (config_of w log.hart []) log.log refl
+    -- its log has the record
+    pub recorded : IsRecorded w.log h ghost.new w.words
+    recorded = let log = ready.log in ends w.log h nothing_recorded ghost.new (config_of w log.hart []) log.log refl
 
-  reads : ResumesRecord w.log h ghost.new w.words
-  reads = log_facts.registers_resumed.between w.log h ghost.new w.words ready.log.log.follows.new_is recorded
+    reads : ResumesRecord w.log h ghost.new w.words
+    reads = log_facts.registers_resumed.between w.log h ghost.new w.words ready.log.log.follows.new_is recorded
 
-  -- the hart after the step is one
-  same_hart : (one other : Hart) → happens y.runs.program w (Step h) ≡ moved w h one → happens y.runs.program w (Step h) ≡ moved w h other → one ≡ other
-  same_hart one other first second =
-      same_there (slice_get (slice_set w.harts h one) h) one other (get-set_same w.harts h one i.hart i.here)
-      (ap (λ (o : Outcome). slice_get o.0.harts h) (sym first ∙ second) ∙ get-set_same w.harts h other i.hart i.here)
+    -- the hart after the step is one
+    same_hart : (one other : Hart) → happens y.runs.program w (Step h) ≡ moved w h one → happens y.runs.program w (Step h) ≡ moved w h other → one ≡ other
+    same_hart one other first second =
+        same_there (slice_get (slice_set w.harts h one) h) one other (get-set_same w.harts h one i.hart i.here)
+        (ap (λ (o : Outcome). slice_get o.0.harts h) (sym first ∙ second) ∙ get-set_same w.harts h other i.hart i.here)
 
-  pub has_registers : (register : ℕ) → Contains ghost.new.live register → read goes.after.registers register ≡ read ghost.new.registers register
-  has_registers register kept =
-      let step = resumes_step y.runs.program w h i in
-      let own : happens y.runs.program w (Step h) ≡ moved w h goes.after =
-      subst (λ (k : ℕ). happens y.runs.program w (Step k) ≡ moved w k goes.after) (s.codes.number h below) goes.does in
-      let all : goes.after.registers ≡ resumed_registers w.log w.words h =
-      ap (λ (x : Hart). x.registers) (same_hart goes.after step.after own step.does) ∙ step.registers in
-      ap (λ (x : List ℕ). read x register) all ∙ reads.registers ready.inside register kept
+    pub has_registers : (register : ℕ) → Contains ghost.new.live register → read goes.after.registers register ≡ read ghost.new.registers register
+    has_registers register kept =
+        let step = resumes_step y.runs.program w h i in
+        let own : happens y.runs.program w (Step h) ≡ moved w h goes.after =
+        subst (λ (k : ℕ). happens y.runs.program w (Step k) ≡ moved w k goes.after) (s.codes.number h below) goes.does in
+        let all : goes.after.registers ≡ resumed_registers w.log w.words h =
+        ap (λ (x : Hart). x.registers) (same_hart goes.after step.after own step.does) ∙ step.registers in
+        ap (λ (x : List ℕ). read x register) all ∙ reads.registers ready.inside register kept
 
 -- ---- Other registers
 
@@ -190,15 +193,16 @@ pub registers_are_resumed : MachinesResume → ResumedGoOn → RegistersAreResum
 registers_are_resumed machines go_on y s events h i =
     let w : World = world (translation_of y) events in
     let stands : Simulates y s w = (machines y s events).is.stands in
+    let on_time : (stands.ghosts h).late ≡ false = ((machines y s events).is.counted.each h (below y s w stands h i)).on_time in
     record {
       recorded = (stands.ghosts h).new;
-      log = recorded y s w stands h i;
+      log = recorded y s w stands h i on_time;
       below = below y s w stands h i;
       state = kept_of y stands.abstract;
       matches = subst (λ (z : State). Matches (flat_of y) (kept_of y stands.abstract) z)
           (sym (kept_is y s w (steps (translation_of y) events) (machines y s events))) (as_source y s stands.abstract).kept_matches;
-      resumes = goes y s w stands h i;
-      registers = has_registers y s w stands h i;
+      resumes = goes y s w stands h i on_time;
+      registers = has_registers y s w stands h i on_time;
       few = (ready y s w stands h i).log.log.follows.new_is.live;
-      needs_no_others = needs_no_others go_on y s h (below y s w stands h i) (kept_of y stands.abstract) (stands.ghosts h).new (goes y s w stands h i).told;
+      needs_no_others = needs_no_others go_on y s h (below y s w stands h i) (kept_of y stands.abstract) (stands.ghosts h).new (goes y s w stands h i on_time).told;
     }

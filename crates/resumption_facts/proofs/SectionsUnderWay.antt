@@ -1,4 +1,5 @@
 -- A boundary under way is one of a section: the record that it writes has a point, or the one before it has.
+use Rattle.recovered_threads.specs.RecordDescriptions.{DescribesAs}
 use Rattle.std.proofs.Common.{◌≡◌, ◌≢◌, ◌⊎◌, inl, inr, refl, ℕ, List, [], ◌∷◌, map, ap, sym, ◌∙◌, subst, true, false, arith, slice_get, Option, Some}
 use Rattle.std.proofs.Common.{Bool, if◌then◌else◌}
 use Rattle.std.proofs.lemmas.Bool.{eq-eqb, false_from_ne_true, true≢false}
@@ -34,7 +35,7 @@ module _ (y : System) (s : IsSystem y) (w : World) (b : AbstractRun y) (code : C
   -- a thread that holds a mutex now
   holds : (mutex : ℕ) → slice_get (now_of y b).holders mutex ≡ Some (Some n) → c.new.point ≢ 0
   holds mutex has =
-      point_where (t.records.will_describe not_yet)
+      point_where code (now_of y b) false c.new (t.records.will_describe not_yet)
       (false_from_ne_true (holds_none (now_of y b).holders n) (λ none. holds_none_is n (now_of y b).holders mutex none has))
 
   module _ (own : IsNodeOf code.thread graph_thread.at) (node : Node) (at : NodeAt y.plan.graph graph_thread.at node) where
@@ -52,7 +53,7 @@ module _ (y : System) (s : IsSystem y) (w : World) (b : AbstractRun y) (code : C
     -- before a logged assignment names are held
     logs : IsLogged y.plan code.thread graph_thread.at → c.new.point ≢ 0
     logs logged =
-        point_where (t.records.will_describe not_yet)
+        point_where code (now_of y b) false c.new (t.records.will_describe not_yet)
         (none_before y.plan (now_of y b) s.plan (now_orderly y s b) code.thread code.of graph_thread t.walks own
         ∙ some (held_names_before y.plan code.thread graph_thread.at) logged.holds)
       where
@@ -81,9 +82,9 @@ module _ (y : System) (s : IsSystem y) (w : World) (b : AbstractRun y) (code : C
       inl (λ none. true≢false (sym (eq-eqb c.new.point 0 none) ∙ (sym (now_between y s w b code c t not_yet)
       ∙ took_holds y s w b code c t not_yet locked.0 locked.1)))
   by_exit _ (at_gives from mutex) own f =
-      let kept : Describes y.plan code (kept_of y b) c.old =
-      subst (λ (done : Bool). Describes y.plan code (kept_of y b) (if done then c.new else c.old)) not_yet t.records.describes in
-      inr (point_where kept (ap (λ (hs : List (Option ℕ)). holds_none hs n) (as_source y s b).kept_matches.holders
+      let kept : DescribesAs y.plan code (kept_of y b) c.late c.old =
+      subst (λ (done : Bool). DescribesAs y.plan code (kept_of y b) c.late (if done then c.new else c.old)) not_yet t.records.describes in
+      inr (point_where code (kept_of y b) c.late c.old kept (ap (λ (hs : List (Option ℕ)). holds_none hs n) (as_source y s b).kept_matches.holders
       ∙ gave_held y s w b code c t not_yet mutex (f.before not_yet)))
 
   pub sectioned : c.rest ≢ [] → IsSectioned c

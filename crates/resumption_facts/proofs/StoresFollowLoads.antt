@@ -1,6 +1,6 @@
 -- A hart stores to no byte that it has loaded on the way from where it would be resumed, unless it had stored to that byte before; and to its own frame it
 -- stores where it would be resumed.
-use Rattle.std.proofs.Common.{◌≡◌, ◌≢◌, inl, inr, refl, ℕ, ◌+◌, ◌*◌, ◌/◌, ◌<◌, ◌≤◌, ◌∷◌, ap, sym, ◌∙◌, subst, Option, Some, arith, slice_get}
+use Rattle.std.proofs.Common.{◌≡◌, ◌≢◌, inl, inr, refl, ℕ, ◌+◌, ◌*◌, ◌/◌, ◌<◌, ◌≤◌, ◌∷◌, ap, sym, ◌∙◌, subst, Option, Some, false, arith, slice_get}
 use Rattle.std.proofs.lemmas.Bool.{true≢false}
 use Rattle.std.proofs.lemmas.Option.{same_Some}
 use Rattle.ido_base.specs.Layout.{byte_number, word_number}
@@ -149,20 +149,20 @@ module _ {y : System} {s : IsSystem y} {w : World} {h : ℕ} (site : Site y s w 
         (ap word_number (sym f.own.is) ∙ same_word value (in_log value i))
 
     -- it has no point, or resumes the hart there
-    resumed_there : IsToFrame site address bytes → live_at w.words (point_at w.log n) ≢ 0 → t.log.hart.pc ≡ resume_of (live_at w.words (point_at w.log n))
-    resumed_there to some =
+    resumed_there : c.late ≡ false → IsToFrame site address bytes → live_at w.words (point_at w.log n) ≢ 0 → t.log.hart.pc ≡ resume_of (live_at w.words (point_at w.log n))
+    resumed_there on_time to some =
         let live : live_at w.words (point_at w.log n) ≡ c.new.point =
         (ends w.log n c.old c.new (config_of w t.log.hart c.rest) t.log.log to.over).point.live in
-        elim to.stands [
+        elim (to.stands on_time) [
           | inl none ↦ absurd (some (live ∙ none))
           | inr here ↦ here ∙ ap resume_of (sym live)
         ]
 
-    pub is_resumed : (value : ℕ) → IsStored site address bytes value → live_at w.words (point_at w.log n) ≢ 0 →
+    pub is_resumed : c.late ≡ false → (value : ℕ) → IsStored site address bytes value → live_at w.words (point_at w.log n) ≢ 0 →
         t.log.hart.pc ≡ resume_of (live_at w.words (point_at w.log n))
-    is_resumed value (to_element e) some = absurd (no_element e)
-    is_resumed value (in_boundary i) some = absurd (no_boundary value i)
-    is_resumed value (to_frame to) some = resumed_there to some
+    is_resumed on_time value (to_element e) some = absurd (no_element e)
+    is_resumed on_time value (in_boundary i) some = absurd (no_boundary value i)
+    is_resumed on_time value (to_frame to) some = resumed_there on_time to some
 
 -- ---- After any events
 
@@ -194,5 +194,6 @@ frame_is_stored_at_resumption machines law marks y s events h hart address bytes
     own_store site hart address bytes value own_next law marks (holds y s w stands h hart (Stores address bytes value) next) r.ready in
     let resumed : IsResumedHere w (view site).n hart =
     subst (λ (x : Hart). IsResumedHere w (view site).n x) same
-    (is_resumed site byte address bytes from to (subst (λ (n : ℕ). IsFrameByte w.log n byte) (sym number) framed) value stored) in
+    (is_resumed site byte address bytes from to (subst (λ (n : ℕ). IsFrameByte w.log n byte) (sym number) framed)
+    ((r.similar.same h).late ∙ ((machines y s events).is.counted.each h site.below).on_time) value stored) in
     subst (λ (n : ℕ). IsResumedHere w n hart) number resumed

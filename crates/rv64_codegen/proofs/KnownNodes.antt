@@ -52,7 +52,7 @@ module _ (p : Plan) (t : Thread) (plan : IsPlan p) (of : IsThread p t) where
 
   module _ (node : ℕ) (is : Node) (at : NodeAt p.graph node is) where
     -- a node that assigns a local does that
-    assigns_here : (local : ℕ) (it : Assigns p node local) → is.action ≡ Eval (e.ToLocal it.place local it.kind) it.assigned it.next
+    pub assigns_here : (local : ℕ) (it : Assigns p node local) → is.action ≡ Eval (e.ToLocal it.place local it.kind) it.assigned it.next
     assigns_here local it = ap (λ (n : Node). n.action) (same_Some is it.is (sym at ∙ it.at)) ∙ it.action
 
     pub assigned_sets : (local : ℕ) → Assigns p node local → sets_local is.action ≡ true

@@ -38,7 +38,7 @@ use Rattle.thread_code.specs.Plans.{Plan, Thread, IsLogged, IsNodeOf, homes, hol
 use Rattle.thread_code.specs.RegistersAtNodes.{Enters, IsAnswered, IsFrameAnswered, IsPendingIn, IsReady, LogView, MayAssign, frame_loads, source_of}
 use Rattle.thread_code.specs.RegistersAtNodes.{to_assign, to_enter}
 use Rattle.thread_code.specs.NodeCodeEffects.{Places, Entrance, EntersAt, IsAnsweredAt, IsOwed, keeping, keeping_before, BoundaryAfter, BoundaryBefore}
-use Rattle.thread_code.specs.NodeCodeEffects.{Performs}
+use Rattle.thread_code.specs.NodeCodeEffects.{Performs, SetsLogged}
 use Rattle.thread_code.specs.NodeCodeEffects.{GoesOnAfter, view_after}
 use Rattle.thread_code.specs.Programs.{IsAtOwnCore, IsAtOwnNode, IsPlainCall, IsCalling, IsCleaning, IsNodeCode, IsWithin, action_nodes, boundary_count}
 use Rattle.thread_code.specs.Programs.{names_kept}
@@ -57,7 +57,7 @@ use Rattle.rv64_codegen.proofs.PieceParts.{PlacedNode, HasPlaces, call_of, does_
 use Rattle.rv64_codegen.proofs.NodeCorrectness as performs
 use Rattle.rv64_codegen.proofs.NodeCorrectness.{Evaluates, enters_kept, enters_of, ready_kept}
 use Rattle.rv64_codegen.proofs.GuardParts as guards
-use Rattle.rv64_codegen.proofs.KnownNodes.{known_of, logged_home, logged_local, logged_sets, not_logged, nothing_pending, sets_local}
+use Rattle.rv64_codegen.proofs.KnownNodes.{assigns_here, known_of, logged_home, logged_local, logged_sets, not_logged, nothing_pending, sets_local}
 use Rattle.rv64_codegen.proofs.LocalRegisters.{word_of}
 use Rattle.c_tree.specs.Values.{lock_number}
 
@@ -376,6 +376,34 @@ module _ {p : Plan} {t : Thread} {c : Choices} (places : Places) (it : PlacedNod
           subst By (same_Some a.Ends effect eq)
           (performs.ends_it places it has s meets seen view owed x enters frame (d.0.at (site_of s meets)) (call ∙ sym (end_call d s meets)))
 
+    -- whatever number it owes
+    stores_owed : (logged : IsLogged p t node) (word : ℕ) → home_of t.locals logged.local ≡ InFrame word → IsReady p t node seen view owed x →
+        SetsLogged p t places (entrance s seen view owed x) word logged.local owed logged.assigns.next
+    stores_owed logged word home ready = by (subst (λ (b : Action). IsDoing p t c node b does goes) same doing) ready
+      where
+        open logged use {local, assigns}
+
+        same : is.action ≡ Eval (e.ToLocal assigns.place local assigns.kind) assigns.assigned assigns.next
+        same = assigns_here p t plan of node is at local assigns
+
+        known : Known p.flat t.kinds t.part.first t.part.end p.graph.nodes is (Eval (e.ToLocal assigns.place local assigns.kind) assigns.assigned assigns.next)
+        known = subst (λ (b : Action). Known p.flat t.kinds t.part.first t.part.end p.graph.nodes is b) same (known_of p t plan of node is own at)
+
+        stored : IsSetting p t c node assigns.place local assigns.kind assigns.assigned.expr does → GoesTo p t c node assigns.next goes →
+            MayAssign p t node local owed seen view x → SetsLogged p t places (entrance s seen view owed x) word local owed assigns.next
+        stored (in_register register other ev) g may = absurd (let z : ⊥ = cc in z)
+        stored (in_section other there it_is st) g may =
+            performs.stores_logged places it has s meets seen view owed x assigns.place local assigns.kind assigns.assigned assigns.next same known word home
+            st g owed may
+        stored (outside other there unlogged st) g may = absurd (unlogged logged)
+
+        by : IsDoing p t c node (Eval (e.ToLocal assigns.place local assigns.kind) assigns.assigned assigns.next) does goes → IsReady p t node seen view owed x →
+            SetsLogged p t places (entrance s seen view owed x) word local owed assigns.next
+        by d (to_enter none h) = absurd (none logged)
+        by d (to_assign own_logged may) =
+            stored d.0 d.1 (subst (λ (l : ℕ). MayAssign p t node l owed seen view x)
+            (logged_local p t plan of node is at own_logged assigns.place local assigns.kind assigns.assigned assigns.next same) may)
+
     -- where the node is a logged assignment
     does_set : (b : Action) → is.action ≡ b → Known p.flat t.kinds t.part.first t.part.end p.graph.nodes is b → IsDoing p t c node b does goes →
         IsLogged p t node → IsReady p t node seen view owed x → IsOwed p t places (entrance s seen view owed x) b → (effect : a.Effect) →
@@ -416,6 +444,13 @@ module _ {p : Plan} {t : Thread} {c : Choices} (places : Places) (it : PlacedNod
       at_node (λ (k : Entrance). IsAtOwnCore p t places k → ((IsLogged p t node → ⊥) → IsAnsweredAt p t places k is.action) →
       IsOwed p t places k is.action → effect_of is.action k.seen ≡ Some effect → Performs p t places k effect)
       (λ s seen view owed x is_at answered owed_is eq. does_all s (met s is_at.meets) seen view owed x is_at.ready answered owed_is effect eq) m same
+
+  assigns_it : (m : Entrance) → m.node ≡ node → IsAtOwnCore p t places m → (logged : IsLogged p t node) (word : ℕ) →
+      home_of t.locals logged.local ≡ InFrame word → SetsLogged p t places m word logged.local m.owed logged.assigns.next
+  assigns_it m same =
+      at_node (λ (k : Entrance). IsAtOwnCore p t places k → (logged : IsLogged p t node) (word : ℕ) → home_of t.locals logged.local ≡ InFrame word →
+      SetsLogged p t places k word logged.local k.owed logged.assigns.next)
+      (λ s seen view owed x is_at logged word home. stores_owed s (met s is_at.meets) seen view owed x logged word home is_at.ready) m same
 
   -- ---- Calls
 
@@ -545,6 +580,7 @@ module _ {p : Plan} {t : Thread} {c : Choices} (places : Places) (it : PlacedNod
     chosen = chosen;
     plain = plain;
     performs = performs_it;
+    assigns = assigns_it;
     calls = calls_by is.action refl (known_of p t plan of node is own at) doing agrees.call;
     cleans = cleans_by is.action refl;
     price = priced;

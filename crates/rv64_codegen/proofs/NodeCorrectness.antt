@@ -46,7 +46,7 @@ use Rattle.thread_code.specs.Plans.{Plan, Thread, IsThread, IsPlan, IsNodeOf, Is
 use Rattle.thread_code.specs.Plans.{of_number, homes}
 use Rattle.thread_code.specs.RegistersAtNodes.{HasLowBytes, HasPending, IsPendingIn, Enters, IsFrameAnswered, IsReady, LogView, MayAssign, to_assign, to_enter}
 use Rattle.thread_code.specs.RegistersAtNodes.{source_of, IsAnswered, with_word}
-use Rattle.thread_code.specs.NodeCodeEffects.{Places, Entrance, kind_at, keeping, Asking, SetsIn, Storing, StoresPlain, Performs, view_after}
+use Rattle.thread_code.specs.NodeCodeEffects.{Places, Entrance, kind_at, keeping, Asking, SetsIn, Storing, StoresPlain, Performs, view_after, SetsLogged}
 use Rattle.thread_code.proofs.Public.{enters_again, ready_again}
 use Rattle.rv64_codegen.specs.Evaluations.{HasSet, IsAssigned, IsEvaluation, IsPlainAssignment, MayEvaluate, MayReach, may_write, IsTest, IsTested, is_taken}
 use Rattle.rv64_codegen.specs.Evaluations.{is_in}
@@ -222,25 +222,23 @@ module _ {p : Plan} {t : Thread} {c : Choices} (places : Places) (it : PlacedNod
           subst (λ (z : ℕ). Enters p t next (record seen { locals = slice_set seen.locals local number }) (with_word view z stored) x) word_is
           (enters_stored p t plan of node next is at goes_on own local kind known.target_is.0 known.assigns seen number view x may (ap owes same))
 
+      pub stores_logged : SetsLogged p t places there word local number next
+      stores_logged = record {
+        storing = record {
+          instr = made_by.instr;
+          stands = subst (λ (z : ℕ). IsInstructionAt places.program.start places.program.code z made_by.instr) (sym agrees.core)
+              (subst (λ (q : Program). IsInstructionAt q.start q.code (to does_at) made_by.instr) (sym of_program) made_by.stands);
+          does = ap (λ (z : ℕ). row made_by.instr x z) agrees.core ∙ made_by.first x low ∙ ap (λ (z : ℕ). Stores z 8 stored) address_is;
+        };
+        passes =
+            then_next next (record { from_first = known.inside.0; below_end = known.inside.1 }) g x (store_observations word 8 stored true) After
+            (subst (λ (z : ℕ). GoesThrough s (fragment x (to does_at) (to goes_at) does_words) (store_observations z 8 stored true) After) address_is
+            (weaker s (fragment x (to does_at) (to goes_at) does_words) (store_observations (read x roles.pending_address) 8 stored true) (λ y. y ≡ x)
+            After (λ y is_x. subst After (sym is_x) set_after) (made_by.makes x (registers_at p.log view.side x may.at_side) low)));
+      }
+
       pub sets_logged : IsLogged p t node → Performs p t places there (a.Sets local number next)
-      sets_logged logged' =
-          subst (λ (z : Home). SetsIn p t places z there local number next) (sym home) (
-            λ _. record {
-              storing = record {
-                instr = made_by.instr;
-                stands =
-                    subst (λ (z : ℕ). IsInstructionAt places.program.start places.program.code z made_by.instr) (sym agrees.core)
-                    (subst (λ (q : Program). IsInstructionAt q.start q.code (to does_at) made_by.instr) (sym of_program) made_by.stands);
-                does = ap (λ (z : ℕ). row made_by.instr x z) agrees.core ∙ made_by.first x low ∙ ap (λ (z : ℕ). Stores z 8 stored) address_is;
-              };
-              passes =
-                  then_next next (record { from_first = known.inside.0; below_end = known.inside.1 }) g x (store_observations word 8 stored true) After
-                  (subst (λ (z : ℕ). GoesThrough s (fragment x (to does_at) (to goes_at) does_words) (store_observations z 8 stored true) After) address_is
-                  (weaker s (fragment x (to does_at) (to goes_at) does_words) (store_observations (read x roles.pending_address) 8 stored true) (λ y. y ≡ x)
-                  After (λ y is_x. subst After (sym is_x) set_after) (made_by.makes x (registers_at p.log view.side x may.at_side) low)));
-            },
-            λ none. absurd (none logged'),
-          )
+      sets_logged logged' = subst (λ (z : Home). SetsIn p t places z there local number next) (sym home) (λ _. stores_logged, λ none. absurd (none logged'))
 
     module _ (seen : Seen) (view : LogView) (owed : ℤ) (x : List ℕ) (enters : Enters p t node seen view x)
         (frame : IsFrameAnswered p t view node s.around.loads) where

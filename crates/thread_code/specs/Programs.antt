@@ -18,6 +18,9 @@ use Rattle.code_runs.specs.CodeTraces.{Program, Meets, marked}
 use Rattle.thread_code.specs.Plans.{Plan, Thread, IsLogged, IsNodeOf, AreKept, AreKeptBefore, held_names_before, hold_words}
 use Rattle.thread_code.specs.RegistersAtNodes.{IsFrameAnswered}
 use Rattle.thread_code.specs.NodeCodeEffects.{Places, Entrance, EntersAt, IsAnsweredAt, IsOwed, IsReadyAt, Performs, BoundaryAfter, BoundaryBefore, GoesOnAfter}
+use Rattle.thread_code.specs.NodeCodeEffects.{SetsLogged}
+use Rattle.expr_code.specs.EvaluationCode.{home_of}
+use Rattle.expr_code.specs.declared.home.Home.TheVariants.{InFrame}
 
 -- expression nodes of a node, a target's index and a lock's key included
 abbrev pub target_nodes : e.Lvalue → ℕ
@@ -119,6 +122,9 @@ module _ (p : Plan) (t : Thread) (c : Places) where
     -- the code does what the node does, where loads of what that reads are answered; from its core on a logged assignment reads nothing
     pub performs : (m : Entrance) (effect : Effect) → m.node ≡ node → IsAtOwnCore m → (¬ (IsLogged p t node) → IsAnsweredAt p t c m is.action) →
         IsOwed p t c m is.action → effect_of is.action m.seen ≡ Some effect → Performs p t c m effect
+    -- a logged assignment stores whatever it owes, and leads to where its local has that number
+    pub assigns : (m : Entrance) → m.node ≡ node → IsAtOwnCore m → (logged : IsLogged p t node) → (word : ℕ) → home_of t.locals logged.local ≡ InFrame word →
+        SetsLogged p t c m word logged.local m.owed logged.assigns.next
     pub calls : IsCalling is.action node
     pub cleans : IsCleaning is.action node
     -- within its price, and what is paid for the locks that it keeps

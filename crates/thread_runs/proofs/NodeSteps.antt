@@ -22,16 +22,17 @@ use Rattle.rv64_isa.specs.Rows.{Effect, Cleans, Stores, row, read}
 use Rattle.machine_model.specs.Schedule.{effect_at}
 use Rattle.memory_layout.specs.Roles.{pending_value}
 use Rattle.boundary_code.specs.Boundaries.{Boundary, boundary_effects}
-use Rattle.flow_graph.specs.Nodes.{Node}
+use Rattle.flow_graph.specs.Nodes.{Action, Node}
 use Rattle.flow_graph.specs.Actions as a
-use Rattle.flow_graph.specs.Actions.{Seen, effect_of}
+use Rattle.flow_graph.specs.Actions.{Seen, effect_of, number_in}
+use Rattle.ido_ints.specs.Reduction.{reduced}
 use Rattle.flow_graph.specs.Liveness.{NodeAt}
 use Rattle.code_runs.specs.ComputingRuns.{LocalConfig, config}
 use Rattle.code_runs.specs.CodeTraces.{Program, Meets, Observation, Mark, Does, GoesThrough, Trace, seen_effects, marked}
 use Rattle.hart_runs.specs.HartsOnRuns.{is_width, is_access, Agrees, MayGo}
 use Rattle.hart_runs.specs.Laws.{IsApart}
 use Rattle.hart_runs.proofs.Public.{same_there}
-use Rattle.thread_code.specs.Plans.{IsLogged, Plan, Thread, IsNodeOf, held_names_before}
+use Rattle.thread_code.specs.Plans.{Assigns, IsLogged, Plan, Thread, IsNodeOf, held_names_before}
 use Rattle.thread_code.specs.RegistersAtNodes.{Enters, IsAnswered, IsFrameAnswered, IsReady, LogView, MayAssign, source_of, to_assign}
 use Rattle.thread_code.specs.RegistersAtNodes.{to_enter, with_word}
 use Rattle.thread_code.specs.NodeCodeEffects.{Places, Entrance, Performs, SetsIn, SetsLogged, SetsPlain, StoresPlain, Storing, kind_at, keeping}
@@ -41,7 +42,7 @@ use Rattle.thread_runs.specs.CodeFragments.{Arrives, Stage, AreEffectsApart, IsO
 use Rattle.thread_runs.specs.CodeFragments.{effects_set, exit_set, view_set}
 use Rattle.thread_runs.specs.CodeFragments.{IsAtMark, IsMadeBy, AreSeen, Running, stage_after, store_of, on_machine}
 use Rattle.thread_runs.specs.CodeFragments.{cleans_of, IsPlaced, MayBeMade, MayDo}
-use Rattle.thread_runs.specs.Laws.{IsAtSomeMark, IsOwing, Performing, NodesBegin}
+use Rattle.thread_runs.specs.Laws.{AssignmentsBegin, IsAtSomeMark, IsOwing, Performing, NodesBegin}
 use Rattle.thread_runs.proofs.AssignedLocals.{may_assign_again, other_local}
 use Rattle.thread_runs.proofs.Boundaries.{both_true, second_true, boundary_may, boundary_apart, word_access}
 use Rattle.thread_runs.proofs.FragmentStarts.{does_there, on_fragment}
@@ -123,9 +124,6 @@ record StandsAtNode {p : Plan} {t : Thread} {own : Program} (code : IsThreadCode
   agrees : Agrees running.program running.world running.hart running.environment
   reads : ReadsOwn running.world.log t.number running.environment
   found : NodeAt p.graph node is
-  owing : IsLogged p t node → IsOwing is.action seen owed
-  answered : ¬ (IsLogged p t node) → IsAnswered (source_of p t seen) running.environment.around.loads is.action ×
-      IsFrameAnswered p t view node running.environment.around.loads
   at : IsAtCore p t code.places running.world running.hart node seen view owed registers
 
 module _ {p : Plan} {t : Thread} {own : Program} (code : IsThreadCode p t own) (running : Running) (stands : StandsAtNode code running) where
@@ -138,22 +136,14 @@ module _ {p : Plan} {t : Thread} {own : Program} (code : IsThreadCode p t own) (
   abbrev entrance : (owed : ℤ) → Entrance
   entrance owed = record { environment = s; node = node; seen = seen; view = view; owed = owed; registers = registers }
 
-  performs_with : (owed : ℤ) → IsReady p t node seen view owed registers → IsOwing is.action seen owed → (e : a.Effect) →
-      effect_of is.action seen ≡ Some e → Performs p t c (entrance owed) e
-  performs_with owed ready owing e eq =
-      (code.code node is at.own found).performs (entrance owed) e refl (record { meets = meets; own = at.own; ready = ready })
-      (λ plain. record { variables = (stands.answered plain).0; frame = (stands.answered plain).1 }) owing eq
+  -- the code begins with the node's mark
+  abbrev IsMarked : Type 0
+  IsMarked = marked s.marks (c.core node) ≡ Mark ∷ []
 
-  performs : (e : a.Effect) → effect_of is.action seen ≡ Some e → (owed : ℤ) × Performs p t c (entrance owed) e
-  performs e eq = by at.ready
-    where
-      by : IsReady p t node seen view stands.owed registers → (owed : ℤ) × Performs p t c (entrance owed) e
-      by (to_enter plain enters) =
-          (number_of e, performs_with (number_of e) (to_enter plain enters) (owing_by (effect_of is.action seen) e eq) e eq)
-      by (to_assign logged may) = (stands.owed, performs_with stands.owed (to_assign logged may) (stands.owing logged) e eq)
+  marks : (e : a.Effect) → effect_of is.action seen ≡ Some e → is_taking e ≡ false → IsMarked
+  marks e eq plain = core_marked p t own code s meets node is seen e at.own found eq plain
 
-  at_mark : (e : a.Effect) (stage : Stage) (effects : List Effect) → stage_after p t c node seen view registers e ≡ stage →
-      effect_of is.action seen ≡ Some e → is_taking e ≡ false →
+  at_mark : (e : a.Effect) (stage : Stage) (effects : List Effect) → stage_after p t c node seen view registers e ≡ stage → IsMarked →
       GoesThrough s (record { registers = registers; from = c.core node; to = end_of p t c stage.exit stage.node; most = c.words node })
       (Mark ∷ seen_effects effects)
       (λ (x : List ℕ). Has p t c stage.exit stage x) →
@@ -161,7 +151,7 @@ module _ {p : Plan} {t : Thread} {own : Program} (code : IsThreadCode p t own) (
       MayGo w.log (length w.harts) (seen_effects effects) →
       ((effect : Effect) → effect_at program h at.at.hart ≡ Some effect → IsMadeBy p t c stage e effect) → AreSeen p t c node seen view registers e effects →
       IsAtSomeMark p t c running node seen view registers e
-  at_mark e stage effects after eq plain goes own_next graph apart may made are_seen =
+  at_mark e stage effects after mark goes own_next graph apart may made are_seen =
       let to : LocalConfig = config goes.registers (end_of p t c stage.exit stage.node) in
       let some : (k : ℕ) × (goes.steps ≡ suc k) = some_steps s goes.steps (config registers (c.core node)) to Mark (seen_effects effects) goes.walks in
       let walks : Trace s (suc some.0) (config registers (c.core node)) (Mark ∷ seen_effects effects) to =
@@ -186,7 +176,7 @@ module _ {p : Plan} {t : Thread} {own : Program} (code : IsThreadCode p t own) (
             may = may;
           };
           has = goes.are;
-          mark = subst (λ (x : ℕ). marked s.marks x ≡ Mark ∷ []) (sym pc) (core_marked p t own code s meets node is seen e at.own found eq plain);
+          mark = subst (λ (x : ℕ). marked s.marks x ≡ Mark ∷ []) (sym pc) mark;
           made = made;
         });
         seen_are = are_seen;
@@ -213,7 +203,7 @@ module _ {p : Plan} {t : Thread} {own : Program} (code : IsThreadCode p t own) (
       Mark ∷ seen_effects (store_of p t c k store value ∷ cleans_of p t c node store) =
       ap (λ (x : List Observation). Mark ∷ Does (store_of p t c k store value) ∷ x) (cleans_lockstep (c.cleans node) clean) in
       at_mark (a.Makes store next) (stage_after p t c node seen view registers (a.Makes store next))
-      (store_of p t c k store value ∷ cleans_of p t c node store) refl eq refl
+      (store_of p t c k store value ∷ cleans_of p t c node store) refl (marks (a.Makes store next) eq refl)
       (subst (λ (x : List Observation). GoesThrough s (record { registers = registers; from = c.core node; to = c.entry next; most = c.words node }) x
       (λ (y : List ℕ). Has p t c Arrives (stage_after p t c node seen view registers (a.Makes store next)) y)) lockstep (does k kind).1)
       (follows (a.Makes store next) next eq refl) tt
@@ -232,7 +222,8 @@ module _ {p : Plan} {t : Thread} {own : Program} (code : IsThreadCode p t own) (
           let st : Storing p t c (entrance owed) other store = (does other there).0 in
           record { value = read registers pending_value; low = st.value.low; is = does_first st.instr st.stands effect is_next ∙ st.does }
 
-  module _ (local : ℕ) (number : ℤ) (next : ℕ) (eq : effect_of is.action seen ≡ Some (a.Sets local number next)) (owed : ℤ) where
+  module _ (local : ℕ) (number : ℤ) (next : ℕ) (assigns : (it : Assigns p node local) × (it.next ≡ next)) (mark : IsMarked) (next_own : IsNodeOf t next)
+      (owed : ℤ) where
     abbrev e : a.Effect
     e = a.Sets local number next
 
@@ -249,9 +240,6 @@ module _ {p : Plan} {t : Thread} {own : Program} (code : IsThreadCode p t own) (
 
     lengths : length after.locals ≡ length seen.locals
     lengths = length-set seen.locals local number
-
-    next_own : IsNodeOf t next
-    next_own = follows e next eq refl
 
     -- where the local stands and which locks are held
     record Standing (home : Home) (held : List LockName) : Type 0 where
@@ -277,13 +265,13 @@ module _ {p : Plan} {t : Thread} {own : Program} (code : IsThreadCode p t own) (
         let own_word : IsOwnWord w.log t.number word = placed.words local word there.at_home in
         let logged : IsLogged p t node = record {
           local = local;
-          assigns = (assigns_local p node is seen local number next found eq).0;
+          assigns = assigns.0;
           frame = ap locals_of placed.log ∙ own_word.framed;
           holds = λ none. some_names name held (sym there.holding ∙ none);
         } in
         let sets : SetsLogged p t c (entrance owed) word local number next = does.0 logged in
         let access : is_access w.log (length w.harts) word 8 ≡ true = word_access w.log (length w.harts) t.number word placed.number own_word in
-        at_mark e (stage_set (InFrame word) (name ∷ held)) (Stores word 8 value ∷ Cleans word ∷ []) (stage_is (InFrame word) (name ∷ held) there) eq refl
+        at_mark e (stage_set (InFrame word) (name ∷ held)) (Stores word 8 value ∷ Cleans word ∷ []) (stage_is (InFrame word) (name ∷ held) there) mark
         sets.passes next_own tt (apart, (tt, tt)) (access, (line_of_access w.log (length w.harts) word 8 access, tt))
         (λ effect is_next. made_by (InFrame word) (name ∷ held) there effect (does_first sets.storing.instr sets.storing.stands effect is_next
         ∙ (sets.storing.does ∙ ap (λ (n : ℕ). Stores word 8 n) (sym (word_there view word value)))))
@@ -294,8 +282,7 @@ module _ {p : Plan} {t : Thread} {own : Program} (code : IsThreadCode p t own) (
     sets_plain word there does =
         let plain : ¬ (IsLogged p t node) = λ logged. logged.holds there.holding in
         let sets : SetsPlain p t c (entrance owed) word local number next = does.1 plain in
-        let assigns = assigns_local p node is seen local number next found eq in
-        at_mark e (stage_set (InFrame word) []) [] (stage_is (InFrame word) [] there) eq refl
+        at_mark e (stage_set (InFrame word) []) [] (stage_is (InFrame word) [] there) mark
         (goes_with (λ x. may_assign_again p t node local number seen after view x lengths (λ other differs. other_local seen.locals local number other differs))
         sets.computes) next_own
         (record {
@@ -322,44 +309,61 @@ module _ {p : Plan} {t : Thread} {own : Program} (code : IsThreadCode p t own) (
     sets : (home : Home) (held : List LockName) → Standing home held → SetsIn p t c home (entrance owed) local number next → MayBeSet p t c home held s →
         IsAtSomeMark p t c running node seen view registers e
     sets (InRegister register) held there does may =
-        at_mark e (stage_set (InRegister register) held) [] (stage_is (InRegister register) held there) eq refl does next_own tt tt tt
+        at_mark e (stage_set (InRegister register) held) [] (stage_is (InRegister register) held there) mark does next_own tt tt tt
         (λ effect is_next. made_by (InRegister register) held there effect tt) (seen_is (InRegister register) held there)
     sets (InFrame word) [] there does may = sets_plain word there does
     sets (InFrame word) (name ∷ held) there does may = sets_logged word name held there does may
 
-  begins : (e : a.Effect) → effect_of is.action seen ≡ Some e → MayDo p t c w.log (length w.harts) s node e →
-      Performing p t c running node seen view registers e
-  begins (a.Sets local number next) eq may =
-      let does = performs (a.Sets local number next) eq in
-      sets local number next eq does.0 (home_of t.locals local) (held_names_before p t node) (record { at_home = refl; holding = refl }) does.1 may
-  begins (a.Owes store next) eq may =
-      at_mark (a.Owes store next) (stage_after p t c node seen view registers (a.Owes store next)) [] refl eq refl
-      (performs (a.Owes store next) eq).1 (follows (a.Owes store next) next eq refl) tt tt tt (λ effect k. tt) refl
-  begins (a.Makes store next) eq may =
-      let does = performs (a.Makes store next) eq in makes does.0 store next does.1 eq may.0 may.1 may.2
-  begins (a.Goes next) eq may =
-      at_mark (a.Goes next) (stage_after p t c node seen view registers (a.Goes next)) [] refl eq refl
-      (performs (a.Goes next) eq).1 (follows (a.Goes next) next eq refl) tt tt tt (λ effect k. tt) refl
-  begins (a.Takes mutex next) eq may =
-      on_fragment p t c program w h s meets agrees (stage_after p t c node seen view registers (a.Takes mutex next)) (c.words node) (c.core node) registers []
-      at.own (let l = takes_lock is.action seen mutex next eq in record { own = at.own; is = is; at = found; lock = l.0; locks = l.1; number = l.2 }) tt tt
-      at.at (performs (a.Takes mutex next) eq).1
-  begins (a.Gives mutex next) eq may =
-      let of_next : IsNodeOf t next = follows (a.Gives mutex next) next eq refl in
-      let b : Boundary = keeping p t c false seen.locals next in
-      at_mark (a.Gives mutex next) (stage_after p t c node seen view registers (a.Gives mutex next))
-      (boundary_effects b view.side (c.after node) registers) refl eq refl (performs (a.Gives mutex next) eq).1 of_next
-      (let l = gives_unlock is.action seen mutex next eq in record { own = at.own; is = is; at = found; lock = l.0; unlocks = l.1; number = l.2 })
-      (boundary_apart w.log (length w.harts) s b view.side (c.after node) registers placed.log reads placed.number
-      (placed.locks seen.locals next of_next)
-      (λ r q. placed.slots next r of_next (inl q)))
-      (boundary_may w.log (length w.harts) b view.side (c.after node) registers placed.log placed.number
-      (placed.locks seen.locals next of_next)
-      (λ r q. placed.slots next r of_next (inl q)))
-      (λ effect k. tt) refl
-  begins a.Ends eq may =
-      at_mark a.Ends (stage_after p t c node seen view registers a.Ends) [] refl eq refl (performs a.Ends eq).1 at.own
-      (record { own = at.own; is = is; at = found; ends = ends_end is.action seen eq }) tt tt (λ effect k. tt) refl
+  module _ (owing : IsLogged p t node → IsOwing is.action seen stands.owed) (answered : ¬ (IsLogged p t node) →
+      IsAnswered (source_of p t seen) s.around.loads is.action × IsFrameAnswered p t view node s.around.loads) where
+    performs_with : (owed : ℤ) → IsReady p t node seen view owed registers → IsOwing is.action seen owed → (e : a.Effect) →
+        effect_of is.action seen ≡ Some e → Performs p t c (entrance owed) e
+    performs_with owed ready owing e eq =
+        (code.code node is at.own found).performs (entrance owed) e refl (record { meets = meets; own = at.own; ready = ready })
+        (λ plain. record { variables = (answered plain).0; frame = (answered plain).1 }) owing eq
+
+    performs : (e : a.Effect) → effect_of is.action seen ≡ Some e → (owed : ℤ) × Performs p t c (entrance owed) e
+    performs e eq = by at.ready
+      where
+        by : IsReady p t node seen view stands.owed registers → (owed : ℤ) × Performs p t c (entrance owed) e
+        by (to_enter plain enters) =
+            (number_of e, performs_with (number_of e) (to_enter plain enters) (owing_by (effect_of is.action seen) e eq) e eq)
+        by (to_assign logged may) = (stands.owed, performs_with stands.owed (to_assign logged may) (owing logged) e eq)
+
+    begins : (e : a.Effect) → effect_of is.action seen ≡ Some e → MayDo p t c w.log (length w.harts) s node e →
+        Performing p t c running node seen view registers e
+    begins (a.Sets local number next) eq may =
+        let does = performs (a.Sets local number next) eq in
+        sets local number next (assigns_local p node is seen local number next found eq) (marks (a.Sets local number next) eq refl)
+        (follows (a.Sets local number next) next eq refl) does.0 (home_of t.locals local) (held_names_before p t node) (record { at_home = refl; holding = refl }) does.1 may
+    begins (a.Owes store next) eq may =
+        at_mark (a.Owes store next) (stage_after p t c node seen view registers (a.Owes store next)) [] refl (marks (a.Owes store next) eq refl)
+        (performs (a.Owes store next) eq).1 (follows (a.Owes store next) next eq refl) tt tt tt (λ effect k. tt) refl
+    begins (a.Makes store next) eq may =
+        let does = performs (a.Makes store next) eq in makes does.0 store next does.1 eq may.0 may.1 may.2
+    begins (a.Goes next) eq may =
+        at_mark (a.Goes next) (stage_after p t c node seen view registers (a.Goes next)) [] refl (marks (a.Goes next) eq refl)
+        (performs (a.Goes next) eq).1 (follows (a.Goes next) next eq refl) tt tt tt (λ effect k. tt) refl
+    begins (a.Takes mutex next) eq may =
+        on_fragment p t c program w h s meets agrees (stage_after p t c node seen view registers (a.Takes mutex next)) (c.words node) (c.core node) registers []
+        at.own (let l = takes_lock is.action seen mutex next eq in record { own = at.own; is = is; at = found; lock = l.0; locks = l.1; number = l.2 }) tt tt
+        at.at (performs (a.Takes mutex next) eq).1
+    begins (a.Gives mutex next) eq may =
+        let of_next : IsNodeOf t next = follows (a.Gives mutex next) next eq refl in
+        let b : Boundary = keeping p t c false seen.locals next in
+        at_mark (a.Gives mutex next) (stage_after p t c node seen view registers (a.Gives mutex next))
+        (boundary_effects b view.side (c.after node) registers) refl (marks (a.Gives mutex next) eq refl) (performs (a.Gives mutex next) eq).1 of_next
+        (let l = gives_unlock is.action seen mutex next eq in record { own = at.own; is = is; at = found; lock = l.0; unlocks = l.1; number = l.2 })
+        (boundary_apart w.log (length w.harts) s b view.side (c.after node) registers placed.log reads placed.number
+        (placed.locks seen.locals next of_next)
+        (λ r q. placed.slots next r of_next (inl q)))
+        (boundary_may w.log (length w.harts) b view.side (c.after node) registers placed.log placed.number
+        (placed.locks seen.locals next of_next)
+        (λ r q. placed.slots next r of_next (inl q)))
+        (λ effect k. tt) refl
+    begins a.Ends eq may =
+        at_mark a.Ends (stage_after p t c node seen view registers a.Ends) [] refl (marks a.Ends eq refl) (performs a.Ends eq).1 at.own
+        (record { own = at.own; is = is; at = found; ends = ends_end is.action seen eq }) tt tt (λ effect k. tt) refl
 
 pub nodes_begin : NodesBegin
 nodes_begin p t program own code w h s node seen view owed registers is e placed meets agrees reads found eq owing answered may at =
@@ -375,7 +379,52 @@ nodes_begin p t program own code w h s node seen view owed registers is e placed
       agrees = agrees;
       reads = reads;
       found = found;
-      owing = owing;
-      answered = answered;
       at = at;
-    }) e eq may
+    }) owing answered e eq may
+
+module _ {p : Plan} {t : Thread} {own : Program} (code : IsThreadCode p t own) (running : Running) (node : ℕ) (seen : Seen) (view : LogView) (owed : ℤ)
+    (registers : List ℕ) (logged : IsLogged p t node) (word : ℕ) (home : home_of t.locals logged.local ≡ InFrame word)
+    (placed : IsPlaced p t code.places running.world.log (length running.world.harts)) (meets : Meets code.places.program running.environment)
+    (agrees : Agrees running.program running.world running.hart running.environment) (reads : ReadsOwn running.world.log t.number running.environment)
+    (at : IsAtCore p t code.places running.world running.hart node seen view owed registers) where
+  open logged use {local, assigns}
+
+  abbrev at_assignment : StandsAtNode code running
+  at_assignment = record {
+    node = node;
+    seen = seen;
+    view = view;
+    owed = owed;
+    registers = registers;
+    is = assigns.is;
+    placed = placed;
+    meets = meets;
+    agrees = agrees;
+    reads = reads;
+    found = assigns.at;
+    at = at;
+  }
+
+  -- what the node does by what the thread sees: it sets the same local
+  abbrev evaluated : a.Effect
+  evaluated = a.Sets local (reduced assigns.kind (number_in seen assigns.assigned.expr)) assigns.next
+
+  evaluates : effect_of assigns.is.action seen ≡ Some evaluated
+  evaluates = ap (λ (b : Action). effect_of b seen) assigns.action
+
+  does : SetsLogged p t code.places (entrance code running at_assignment owed) word local owed assigns.next
+  does = (code.code node assigns.is at.own assigns.at).assigns (entrance code running at_assignment owed) refl
+      (record { meets = meets; own = at.own; ready = at.ready }) logged word home
+
+  begins_by : IsApart running.environment word 8 → (held : List LockName) → held_names_before p t node ≡ held →
+      IsAtSomeMark p t code.places running node seen view registers (a.Sets local owed assigns.next)
+  begins_by apart [] none = absurd (logged.holds none)
+  begins_by apart (name ∷ held) some =
+      sets_logged code running at_assignment local owed assigns.next (assigns, refl) (marks code running at_assignment evaluated evaluates refl)
+      (follows code running at_assignment evaluated assigns.next evaluates refl) owed word name held (record { at_home = home; holding = some })
+      (λ _. does, λ none. absurd (none logged)) apart
+
+pub assignments_begin : AssignmentsBegin
+assignments_begin p t program own code w h s node seen view owed registers logged word home placed meets agrees reads apart at =
+    begins_by code (on_machine program w h s) node seen view owed registers logged word home placed meets agrees reads at apart
+    (held_names_before p t node) refl

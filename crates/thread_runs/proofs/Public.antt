@@ -5,7 +5,7 @@ pub use Rattle.thread_runs.proofs.CallsNotStuck.{ends_are_well, locks_are_well, 
 pub use Rattle.thread_runs.proofs.FragmentStarts.{arrivals_end, at_end, computes_end, locks_go_on, took_end, unlocks_go_on}
 pub use Rattle.thread_runs.proofs.Graph.{any_at, assigns_local, next_by, next_follows}
 pub use Rattle.thread_runs.proofs.LockCalls.{locks_take, locks_wait}
-pub use Rattle.thread_runs.proofs.NodeSteps.{nodes_begin}
+pub use Rattle.thread_runs.proofs.NodeSteps.{assignments_begin, nodes_begin}
 pub use Rattle.thread_runs.proofs.OtherEventsKeepThreads.{others_keep_fragments}
 pub use Rattle.thread_runs.proofs.PlacedPlans.{plans_are_placed}
 pub use Rattle.thread_runs.proofs.RemainingSteps.{cleans_on, marks_are_bounded}

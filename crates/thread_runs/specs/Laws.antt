@@ -15,6 +15,8 @@ use Rattle.machine_model.specs.Machine.{Hart, World, queue_limit, after_event, r
 use Rattle.machine_model.specs.Frames.{IsWellFormedWorld}
 use Rattle.machine_model.specs.Schedule.{effect_at, is_point_store, is_fence, passes_mark, stores_point, finishes_fence}
 use Rattle.boundary_code.specs.Boundaries.{IsOnSide, boundary_effects}
+use Rattle.expr_code.specs.EvaluationCode.{home_of}
+use Rattle.expr_code.specs.declared.home.Home.TheVariants.{InFrame}
 use Rattle.flow_graph.specs.Nodes.{Action, Node}
 use Rattle.flow_graph.specs.Actions as a
 use Rattle.flow_graph.specs.Actions.{effect_of, Seen}
@@ -259,6 +261,14 @@ NodesBegin = (p : Plan) (t : Thread) (program : List (List Slot)) (own : Program
     (¬ (IsLogged p t node) → IsAnswered (source_of p t seen) s.around.loads is.action × IsFrameAnswered p t view node s.around.loads) →
     MayDo p t code.places w.log (length w.harts) s node e → IsAtCore p t code.places w h node seen view owed registers →
     Performing p t code.places (on_machine program w h s) node seen view registers e
+
+-- at the core of a logged assignment, whatever number it owes its local: it is at the mark, by which it stores that number
+abbrev pub AssignmentsBegin : Type 0
+AssignmentsBegin = (p : Plan) (t : Thread) (program : List (List Slot)) (own : Program) (code : IsThreadCode p t own) (w : World) (h : ℕ) (s : MarkedEnvironment)
+    (node : ℕ) (seen : Seen) (view : LogView) (owed : ℤ) (registers : List ℕ) (logged : IsLogged p t node) (word : ℕ) →
+    home_of t.locals logged.local ≡ InFrame word → IsPlaced p t code.places w.log (length w.harts) → Meets code.places.program s → Agrees program w h s →
+    ReadsOwn w.log t.number s → IsApart s word 8 → IsAtCore p t code.places w h node seen view owed registers →
+    IsAtSomeMark p t code.places (on_machine program w h s) node seen view registers (a.Sets logged.local owed logged.assigns.next)
 
 -- a step at a mark passes it, or writes back an entry of the queue
 abbrev pub MarksPass : Type 0

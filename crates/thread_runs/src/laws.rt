@@ -1,4 +1,5 @@
 //! What is true of threads in fragments of their code: nothing is computed here.
+ghost use Rattle.thread_runs.specs.Laws.{AssignmentsBegin};
 ghost use Rattle.thread_runs.specs.Laws.{ArrivalsEnd, ComputesEnd, CoresSeeAll, EndsAreWell, EndsEnd, KeepsEnd, LocksAreWell, LocksGoOn, LocksTake, LocksWait};
 ghost use Rattle.thread_runs.specs.Laws.{MarksAreBounded, MarksAreWell, MarksPass, NodesBegin, OthersKeepCores, OthersKeepMarks, OthersKeepFragments};
 ghost use Rattle.thread_runs.specs.Laws.{PlansArePlaced, ResumedGoOn, StaysAreAtCore, ThreadsStart, TookEnd, UnlocksAreWell, UnlocksGive};
@@ -53,9 +54,10 @@ pub fn fragments_end()
     ensures computes { ComputesEnd }
 {}
 
-/// At its node's code a thread asks for the node's mutex, or is at the node's mark.
+/// At its node's code a thread asks for the node's mutex, or is at the node's mark: at a logged assignment with whatever number that owes its local.
 pub fn nodes_begin()
-    ensures { NodesBegin }
+    ensures begins { NodesBegin }
+    ensures assigns { AssignmentsBegin }
 {}
 
 /// What a call does: a lock takes a free mutex and passes its mark or waits, an unlock gives it back, and the end ends.

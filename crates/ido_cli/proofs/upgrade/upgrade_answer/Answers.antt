@@ -4,7 +4,7 @@ use Rattle.ido_cli.specs.Answers.{not_older, of_older}
 use Rattle.ido_cli.specs.CompiledImages.{whole}
 use Rattle.ido_cli.proofs.RecoveredRuns.{accepted_runs_on, compiled_in, few_steps_in, translated_in, words_in}
 use Rattle.ido_cli.proofs.RefusedSchedules.{both_ok}
-use Rattle.ido_cli.proofs.UpgradedImages.{older_alone, older_registers}
+use Rattle.ido_cli.proofs.UpgradedImages.{older_alone}
 use Rattle.ido_cli.proofs.upgrade.upgrade_answer.Goals as goal
 
 pub upgraded-requires-clause-source : goal.upgraded-requires-clause-source
@@ -34,8 +34,7 @@ returns-in-Ok g c =
     let image = c.in-Ok.older.image in
     IfOk-weaker c.upgraded.result _ _
     (λ said is. of_older image c.in-Ok.older.source.now older
-    (accepted_runs_on c.shapes_run_on.ensures.accepted Second c.args.input.now image (whole image older.is)
-    (older_registers c.args.input.now image older.is)) is) c.upgraded.ensures
+    (accepted_runs_on c.shapes_run_on.ensures.accepted Second c.args.input.now image (whole image older.is)) is) c.upgraded.ensures
 
 pub returns-in-Err : goal.returns-in-Err
 returns-in-Err g c =

@@ -2,4 +2,4 @@ use Rattle.image_runs.proofs.RecordedStates.{shapes_are_states}
 use Rattle.image_runs.proofs.laws.shapes_are_states.Goals as goal
 
 pub returns : goal.returns
-returns c = shapes_are_states c.chosen_boundaries_are_locked.ensures.locked
+returns c = shapes_are_states
