@@ -142,4 +142,5 @@ pub points_name_as : (p : Plan) (code : Code p) (s : FlowState) (late : Bool) (r
     Contains code.program.resumes (resume_of r.point)
 points_name_as p code s false r describes some = points_name p code s r describes some
 points_name_as p code s true r past some =
-    subst (Contains code.program.resumes) (sym past.resumes) ((code.is.resumes (code.is.places.core past.node)).1 (at_chosen past.node past.own_node past.chosen))
+    subst (Contains code.program.resumes) (sym past.resumes)
+    ((code.is.resumes (code.is.places.core past.node)).1 (at_chosen past.node past.own_node past.chosen))

@@ -199,7 +199,8 @@ module _ (fragments_step : FragmentsStep) (cores_step : CoresStep) (local_stores
           let begun = begun_after y w event keeps steps in
           let more = goes_on from steps.begun (begun_in y w event) was.runs in
           record {
-            runs = ap (m.runs_from from) begun ∙ (more.runs ∙ (ap (λ (x : m.State). m.runs_from x (begun_in y w event)) was.leads ∙ (on.counted (on_time event)).runs));
+            runs = ap (m.runs_from from) begun
+                ∙ (more.runs ∙ (ap (λ (x : m.State). m.runs_from x (begun_in y w event)) was.leads ∙ (on.counted (on_time event)).runs));
             leads = ap (m.after_from from) begun
                 ∙ (more.after ∙ (ap (λ (x : m.State). m.after_from x (begun_in y w event)) was.leads ∙ sym (on.counted (on_time event)).source));
             furthest = on.tried was.furthest;

@@ -76,12 +76,14 @@ module _ (y : System) (s : IsSystem y) (w : World) (stands : Simulates y s w) (n
 
   old_describes : thread_ghost.committed ≡ false → DescribesAs y.plan thread_code kept thread_ghost.late thread_ghost.old
   old_describes not_yet =
-      subst (λ (b : Bool). DescribesAs y.plan thread_code kept thread_ghost.late (if b then thread_ghost.new else thread_ghost.old)) not_yet (stands.each n below).records.describes
+      subst (λ (b : Bool). DescribesAs y.plan thread_code kept thread_ghost.late (if b then thread_ghost.new else thread_ghost.old)) not_yet
+      (stands.each n below).records.describes
 
   -- what is so of all such records is so of the live point, and of the durable one
   module _ (P : ℕ → Type 0) (of_kept : (r : Record) → DescribesAs y.plan thread_code kept thread_ghost.late r → P r.point)
       (of_now : (r : Record) → Describes y.plan thread_code present r → P r.point) where
-    new_is : DescribesAs y.plan thread_code kept thread_ghost.late thread_ghost.new ⊎ Describes y.plan thread_code present thread_ghost.new → P thread_ghost.new.point
+    new_is : DescribesAs y.plan thread_code kept thread_ghost.late thread_ghost.new ⊎ Describes y.plan thread_code present thread_ghost.new →
+        P thread_ghost.new.point
     new_is (inl describes) = of_kept thread_ghost.new describes
     new_is (inr describes) = of_now thread_ghost.new describes
 
@@ -131,12 +133,14 @@ module _ (y : System) (s : IsSystem y) (w : World) (stands : Simulates y s w) wh
       subst (λ (locks : List ℕ). (has_lock locks lock ≡ true) ↔ (slice_get (kept_of y b).holders lock ≡ Some (Some n))) (sym (recorded_is n below))
       (subst (λ (k : ℕ). (has_lock (locks_of (left y s w stands n)) lock ≡ true) ↔ (slice_get (kept_of y b).holders lock ≡ Some (Some k)))
       (s.codes.number n below)
-      (locks_are_held y.plan (s.codes.each n below) (kept_of y b) (lates y s w stands n) (left y s w stands n) s.plan (orderly y s b) (left_describes y s w stands n below) lock))
+      (locks_are_held y.plan (s.codes.each n below) (kept_of y b) (lates y s w stands n) (left y s w stands n) s.plan (orderly y s b)
+      (left_describes y s w stands n below) lock))
 
   records_apart : (g h lock : ℕ) → g < thread_count y → h < thread_count y → g ≢ h → has_lock (record_of w.log w.words h) lock ≡ true →
       has_lock (record_of w.log w.words g) lock ≡ false
   records_apart g h lock gb hb other mine = false_from_ne_true (has_lock (record_of w.log w.words g) lock) (λ also.
-      other (records_are_apart y.plan s.codes (kept_of y b) (lates y s w stands) (left y s w stands) s.plan (orderly y s b) (left_describes y s w stands) g h lock gb hb
+      other (records_are_apart y.plan s.codes (kept_of y b) (lates y s w stands) (left y s w stands) s.plan (orderly y s b)
+      (left_describes y s w stands) g h lock gb hb
       (ap (λ (locks : List ℕ). has_lock locks lock) (sym (recorded_is g gb)) ∙ also)
       (ap (λ (locks : List ℕ). has_lock locks lock) (sym (recorded_is h hb)) ∙ mine)))
 
@@ -317,7 +321,8 @@ module _ (y : System) (s : IsSystem y) (w : World) (stands : Simulates y s w) (n
   pub no_locks : record_of w.log w.words n ≡ [] → durable_point w.log w.words n ≡ 0
   no_locks e =
       left_point y s w stands n below
-      ∙ (points_have_locks y.plan code (kept_of y b) (lates y s w stands n) (left y s w stands n) s.plan (orderly y s b) (left_describes y s w stands n below)).0
+      ∙ (points_have_locks y.plan code (kept_of y b) (lates y s w stands n) (left y s w stands n) s.plan (orderly y s b)
+      (left_describes y s w stands n below)).0
       (sym (recorded_is y s w stands n below) ∙ e)
 
 pub machines_are_whole : MachinesResume → MachinesAreWhole

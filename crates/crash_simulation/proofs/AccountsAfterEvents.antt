@@ -34,7 +34,7 @@ use Rattle.crash_simulation.proofs.LifeStarts.{HasBegun, start_goes, start_then_
 use Rattle.crash_simulation.proofs.AccountsBeforeCommit.{released_by, none_released, stays_done, phase_releases, kept_crashed, recovered_counted}
 use Rattle.crash_simulation.proofs.ReadBytes.{none_bound}
 use Rattle.crash_simulation.proofs.AccountsBeforeCommit.{start_counted, crash_counted, evicted_counted, own_step_counted, GoesOnBy, led_now}
-use Rattle.crash_simulation.proofs.LastReleases.{holders_stay_none, describes_test, at_most_one}
+use Rattle.crash_simulation.proofs.LastReleases.{holders_stay_none, at_most_one}
 use Rattle.crash_simulation.proofs.LoadFreeEnvironment.{none_ahead}
 use Rattle.crash_simulation.proofs.ReadyHarts.{right_empty, runs_ready}
 use Rattle.crash_simulation.proofs.CallSteps.{calls_step}
@@ -138,7 +138,8 @@ module _ (y : System) (s : IsSystem y) (w : World) (event : Event) (old : Simula
   abbrev pub AreOnTime : {u : World} {waiting : ℕ → Type 0} → SimulatesBut y s u waiting → Type 0
   AreOnTime z = (n : ℕ) → n < thread_count y → (z.ghosts n).late ≡ false
 
-  -- the source goes on by these steps; a thread has to give back what it had, or what its step unlocks; and the graph goes on by the steps, which pass boundaries
+  -- the source goes on by these steps; a thread has to give back what it had, or what its step unlocks; and the graph goes on by the steps, which
+  -- pass boundaries
   -- as points are stored
   pub record Accounts {waiting : ℕ → Type 0} (new : SimulatesBut y s later_world waiting) : Type 0 where
     pub source : now new.abstract.config ≡ after_from (now old.abstract.config) (begun_in y w event)

@@ -303,7 +303,11 @@ module _ (y : System) (s : IsSystem y) (w : World) (h : ℕ) (stands : Simulates
     pending = pending_is begun points h position steps ∙ (ap (begun_by begun h) counted.pending ∙ sym pending);
     each = each_placed (thread_count y) stands.ghosts h o.below o.ghost
         (λ (n : ℕ) (below : n < thread_count y) (c : ThreadGhost). IsAccountedOf y after o.next n c then_steps.pending (then_released n))
-        (record { on_time = o.counted.late ∙ (counted.each h o.below).on_time; counted = own; released = released_own y s w h stands i o r (counted.each h o.below).released }) other;
+        (record {
+          on_time = o.counted.late ∙ (counted.each h o.below).on_time;
+          counted = own;
+          released = released_own y s w h stands i o r (counted.each h o.below).released;
+        }) other;
     beyond = λ n outside. kept_own y s w h stands i o r n
         ∙ (counted.beyond n outside ∙ sym (other_released y.runs.program w h r n (λ e. omega (arith, outside, o.below, e))));
   }

@@ -15,7 +15,7 @@ use Rattle.crash_simulation.proofs.Common.{boundary_fences}
 use Rattle.node_code.specs.Pieces.{gives, ends}
 use Rattle.crash_simulation.specs.InstructionSteps as moving
 use Rattle.crash_simulation.proofs.BoundaryFences.{same_fences}
-use Rattle.crash_simulation.proofs.LastReleases.{holds_some, no_release, holders_stay_none, is_release, none_leaving, describes_test}
+use Rattle.crash_simulation.proofs.LastReleases.{holds_some, no_release, holders_stay_none, is_release, none_leaving}
 use Rattle.crash_simulation.proofs.LocksAfterStep.{GoneOn, runs_held, held_given}
 use Rattle.crash_simulation.proofs.OwnHartSteps.{view, StepOf, own_step, own_giving, locks_to, held_still}
 use Rattle.crash_simulation.proofs.LockCallSteps.{none_from, AtEnd, MovesHart, FragmentTo, z, invariant, exists_now, now_holders}

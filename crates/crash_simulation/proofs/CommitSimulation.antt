@@ -1,7 +1,7 @@
 -- Where boundaries have been committed, the steps before them are kept.
 use Rattle.crash_simulation.proofs.Common.{◌≡◌, ◌≢◌, ℕ, List, sym, ◌∙◌, ap, arith, subst, true, false, refl, suc, ◌+◌, ◌<◌, [], ◌++◌, Bool, ◌⊎◌, inl, inr, zero}
 use Rattle.crash_simulation.proofs.Common.{◌==◌, replicate, slice_set, ◌&&◌, if◌then◌else◌, not, nat_le, true≢false, append-nil, ◌≤◌, is_some, append_assoc}
-use Rattle.crash_simulation.proofs.Common.{list_any, cond-true, cond-false, last_position, without, steps_of, World, Steps, with_kept}
+use Rattle.crash_simulation.proofs.Common.{list_any, last_position, without, steps_of, World, Steps, with_kept}
 use Rattle.crash_simulation.proofs.Common.{with_all_kept, FlowState, Writes, no_attempt, now, attempt_of, IsStable, history_at, number_at, steps_begun}
 use Rattle.crash_simulation.proofs.Common.{IsSettled, HasUnlocked, LastUnlocks, equal_self, unequal_of, since_settles, HasCome, IsBeforeBoundary, Origin}
 use Rattle.crash_simulation.proofs.Common.{attempts_are_whole, point_in, config_of, is_store, LogConfig, is_committed, log_facts, committed_where_durable}
@@ -177,7 +177,8 @@ module _ (y : System) (s : IsSystem y) (w : World) (k : ℕ) (below : k < thread
         ((n : ℕ) (inside : n < thread_count y) → n ≢ k → P n inside (stands.ghosts n)) → (n : ℕ) (inside : n < thread_count y) → P n inside (ghosts n)
     each_taken P own others =
         each_thread (thread_count y) k below (λ (n : ℕ) (inside : n < thread_count y). P n inside (ghosts n))
-        (subst (λ (z : Bool). P k below (record c { committed = if z then true else c.committed; late = if z then false else c.late })) (sym (equal_self k)) own)
+        (subst (λ (z : Bool). P k below (record c { committed = if z then true else c.committed; late = if z then false else c.late }))
+        (sym (equal_self k)) own)
         (λ n inside apart. subst (λ (z : Bool). P n inside (record (stands.ghosts n) {
           committed = if z then true else (stands.ghosts n).committed;
           late = if z then false else (stands.ghosts n).late;

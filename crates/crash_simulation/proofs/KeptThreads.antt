@@ -12,7 +12,7 @@ use Rattle.crash_simulation.proofs.Common.{since_is_persisted, store_same, store
 use Rattle.crash_simulation.proofs.Common.{since_stays, held_same, RespectsAll, flow_kept, flow_now, node_after, Origin, line_of, CleansSince, graph_stands}
 use Rattle.crash_simulation.proofs.Common.{graph_follows, MarkedEnvironment, log_word, IsUnstored, config_of, MovesTo, Moves, Elsewhere, Agrees, IsOfOthers}
 use Rattle.crash_simulation.proofs.Common.{others_leave, others_reach, IsOnFragment, on_machine, Stage, IsAtCore, fragments_see_all, cores_see_all}
-use Rattle.crash_simulation.proofs.Common.{others_keep_fragments, others_keep_cores, Code, Describes, same_there, same_or_other, others_describe, AbstractRun}
+use Rattle.crash_simulation.proofs.Common.{others_keep_fragments, others_keep_cores, Code, same_there, same_or_other, others_describe, AbstractRun}
 use Rattle.crash_simulation.proofs.Common.{kept_of, now_of, attempts_of, StepsOrStutters, stays, goes, IsDoneBy, abstract_next, System, IsSystem, flat_of}
 use Rattle.crash_simulation.proofs.Common.{shapes_of, ThreadGhost, on_fragment, at_core, InPhase, ThreadInv, IsRunningThread, AnswersGuarded, is_reached}
 use Rattle.crash_simulation.proofs.Common.{is_ahead, IsComing, IsFlushed, HasStored, durable_there, comes_with, recorded_in, IsWordOf, record_kept}

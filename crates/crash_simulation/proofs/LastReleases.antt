@@ -1,7 +1,8 @@
 -- Releases of a hart's last mutex, and threads that leave a section.
 use Rattle.crash_simulation.proofs.Common.{◌≡◌, ◌≢◌, ℕ, List, sym, ◌∙◌, ap, arith, true, false, Option, Some, None, refl, Bool, ◌==◌, slice_get, ◌&&◌, not}
 use Rattle.crash_simulation.proofs.Common.{eq-eqb, ◌≤◌, is_some, and_left, and_right, false_from_ne_true, ne_eqb, nat_tests, holds_none, Step, World}
-use Rattle.crash_simulation.proofs.Common.{after_event, releases_last, Slot, FlowState, Record, Code, Describes, DescribesAs, holds_none_is, is_leaving, one_if, System}
+use Rattle.crash_simulation.proofs.Common.{after_event, releases_last, Slot, FlowState, Record, Code, Describes, DescribesAs, holds_none_is, is_leaving, one_if}
+use Rattle.crash_simulation.proofs.Common.{System}
 use Rattle.crash_simulation.proofs.Common.{ThreadGhost}
 
 -- ---- Holders

@@ -2,7 +2,7 @@
 use Rattle.crash_simulation.proofs.Common.{Record, cond-true, is_some, ◌≡◌, ℕ, ℤ, List, [], ◌∷◌, ◌++◌, sym, ◌∙◌, ap, arith, subst, refl, suc, ◌+◌, ◌-◌, ◌<◌}
 use Rattle.crash_simulation.proofs.Common.{◌^◌, length, inl, inr, ⊎_elim, slice_get, not, none-some, true, true≢false, World, Hart, Effect, Stores, Step, Log}
 use Rattle.crash_simulation.proofs.Common.{is_running, memory_in, stores_point, finishes_fence, Computes, Arrives, FragmentsGoOn, IsOnFragment, on_machine}
-use Rattle.crash_simulation.proofs.Common.{run_of, effects_of, Site, OnFragmentNow, LocalStoresStep, System, IsSystem, ThreadGhost, InFragment, IsFrameWord}
+use Rattle.crash_simulation.proofs.Common.{run_of, effects_of, Site, OnFragmentNow, System, IsSystem, ThreadGhost, InFragment, IsFrameWord}
 use Rattle.crash_simulation.proofs.Common.{with_word, frame_at, computes_end, read, same_there, places_of, ◌==◌, ap₂, if◌then◌else◌, now, typed, seen_effects}
 use Rattle.crash_simulation.proofs.Common.{steps_left, cleans_in, beyond, Contains, contains_none, ne_eqb, AreFencesCounted, AreNamed, Changes, Contents}
 use Rattle.crash_simulation.proofs.Common.{HasView, IsElsewhere, IsInAttempt, IsLogEffect, IsNext, IsOwnWord, IsSectioned, IsSoon, IsWellFormedWorld}
@@ -32,7 +32,7 @@ use Rattle.crash_simulation.proofs.Common.{◌&&◌, first_access_after}
 use Rattle.crash_simulation.proofs.LoadFreeEnvironment.{bare, bare_answers, bare_loaded, resettled}
 use Rattle.crash_simulation.proofs.ReadBytes.{reads_after}
 use Rattle.crash_simulation.proofs.NodeEnvironments.{placed_here}
-use Rattle.crash_simulation.proofs.OwnHartSteps.{view, StepOf, own_step}
+use Rattle.crash_simulation.proofs.OwnHartSteps.{view, StepOf}
 
 -- nothing is after it
 last_made : (word value : ℕ) (later : List Effect) → Stores word 8 value ∷ [] ≡ Stores word 8 value ∷ later → later ≡ []

@@ -23,7 +23,7 @@ use Rattle.crash_simulation.proofs.PointsInSections.{point_held, point_where}
 use Rattle.crash_simulation.proofs.ThreadViews.{frame_stays, log_moved, view_stays}
 use Rattle.crash_simulation.proofs.Common.{◌≡◌, ◌≢◌, ℕ, List, sym, ◌∙◌, ap, arith, subst, true, false, Option, Some, None, refl, suc, ◌+◌, ◌<◌, [], ◌++◌}
 use Rattle.crash_simulation.proofs.Common.{length, inl, inr, slice_get, ◌&&◌, not, true≢false, length-set, ◌≤◌, ℤ, ⊎_elim, Contains, is_none, cond-false}
-use Rattle.crash_simulation.proofs.Common.{nat_tests, none-some, same_Some, slice_get_within, holds_none, held_from, Step, LockName, locks, locks_same, Hart}
+use Rattle.crash_simulation.proofs.Common.{none-some, same_Some, slice_get_within, holds_none, held_from, Step, LockName, locks, locks_same, Hart}
 use Rattle.crash_simulation.proofs.Common.{World, happens, Outcome, with_holder, moved, gone_on, Effect, Calls, row, is_running, stores_point, Ecall, Phase}
 use Rattle.crash_simulation.proofs.Common.{get-set_same, GraphThread, FlowState, Action, Lock, End, successors, get_cases, set_same, no_more, Boundary}
 use Rattle.crash_simulation.proofs.Common.{boundary_effects, solo, now, attempt_of, Invariant, begun, ConfigStep, synchronises, Synchronises, HasUnlocked}
@@ -31,7 +31,7 @@ use Rattle.crash_simulation.proofs.Common.{HasLocked, memory_in, counted_own, un
 use Rattle.crash_simulation.proofs.Common.{recorded_by, LogInv, Record, IsElsewhere, IsNext, stores_nothing, one_effect, side_follows, boundaries_fence}
 use Rattle.crash_simulation.proofs.Common.{boundary_stores, takes, IsAtCall, calls_count, effect_is, queues_stay_short, keeping, IsCalling, Enters, IsLockOf}
 use Rattle.crash_simulation.proofs.Common.{ExitPoint, IsOnFragment, on_machine, Asks, Took, TakesMutex, call_there, fragments_see_all, cleans_on, locks_take}
-use Rattle.crash_simulation.proofs.Common.{locks_wait, Code, Describes, same_there, holds_none_is, AbstractRun, kept_of, now_of, is_bound, was_unlocked, Site}
+use Rattle.crash_simulation.proofs.Common.{locks_wait, same_there, holds_none_is, AbstractRun, kept_of, now_of, is_bound, was_unlocked, Site}
 use Rattle.crash_simulation.proofs.Common.{nothing_released, stays, MayStore, nothing, goes, OnFragmentNow, abstract_next, thread_of, begins_step, AreHeld}
 use Rattle.crash_simulation.proofs.Common.{most_ahead, System, IsSystem, thread_count, flat_of, places_of, ThreadGhost, on_fragment, InPhase, ThreadInv}
 use Rattle.crash_simulation.proofs.Common.{GoesClean, InFragment, finishes_fence, boundary_fences, AreFencesCounted, last_store_after, first_access_after}

@@ -174,7 +174,8 @@ module _ {y : System} {s : IsSystem y} {w : World} {h : ℕ} (site : AtNode y s 
   pub told_new : tells_write c ≡ is_some c.new.written
   told_new = ap (λ (r : Record). is_some r.written) (cond-true c.committed c.new c.old site.core.goes.goes.committed)
 
-  pub told_at : {begun : Bool} → c.late ≡ false → begun ≡ true → steps_begun b.config n ≡ 0 → (node : ℕ) → node_of (now_of y b) n ≡ Some node → IsTold y node (tells_write c)
+  pub told_at : {begun : Bool} → c.late ≡ false → begun ≡ true → steps_begun b.config n ≡ 0 → (node : ℕ) →
+      node_of (now_of y b) n ≡ Some node → IsTold y node (tells_write c)
   told_at on_time begun first node stands =
       let same : (view site.hart).graph_thread.at ≡ node = same_Some _ _ (sym (ap (option_map (λ (z : GraphThread). z.at)) t.walks) ∙ stands) in
       subst (λ (k : ℕ). IsTold y k (tells_write c)) same

@@ -1,17 +1,25 @@
 -- A hart that stores the local of a logged assignment once more, which its thread is past; and any that stores a local.
-use Rattle.crash_simulation.proofs.Common.{Record, cond-true, is_some, ◌≡◌, ◌≢◌, ℕ, ℤ, List, [], ◌∷◌, ◌++◌, sym, ◌∙◌, ap, arith, subst, refl, suc, ◌+◌, ◌*◌, ◌<◌}
-use Rattle.crash_simulation.proofs.Common.{◌^◌, ◌≤◌, length, inl, inr, ⊎_elim, slice_get, not, none-some, true, false, true≢false, World, Hart, Effect, Stores, Step, Log}
-use Rattle.crash_simulation.proofs.Common.{is_running, memory_in, stores_point, finishes_fence, Arrives, IsOnFragment, on_machine, Cleans, Some, LockName, Home}
-use Rattle.crash_simulation.proofs.Common.{run_at, effects_of, Site, LocalStoresStep, System, IsSystem, ThreadGhost, InFragment, IsFrameWord, MarksPass, FragmentsGoOn}
-use Rattle.crash_simulation.proofs.Common.{with_word, frame_at, read, same_there, places_of, ◌==◌, ap₂, if◌then◌else◌, now, typed, seen_effects, IsAtSomeMark}
-use Rattle.crash_simulation.proofs.Common.{steps_left, beyond, Contains, contains_none, contains_first, contains_cases, ne_eqb, eq-eqb, AreFencesCounted, Changes, Contents}
-use Rattle.crash_simulation.proofs.Common.{HasView, IsElsewhere, IsInAttempt, IsLogEffect, IsNext, IsOwnWord, IsSectioned, IsSoon, IsWellFormedWorld, IsLogged, Plan}
+use Rattle.crash_simulation.proofs.Common.{Record, cond-true, is_some, ◌≡◌, ◌≢◌, ℕ, ℤ, List, [], ◌∷◌, ◌++◌, sym, ◌∙◌, ap, arith, subst, refl, suc, ◌+◌}
+use Rattle.crash_simulation.proofs.Common.{◌<◌}
+use Rattle.crash_simulation.proofs.Common.{◌^◌, inl, inr, ⊎_elim, slice_get, not, none-some, true, false, true≢false, World, Hart, Effect, Stores}
+use Rattle.crash_simulation.proofs.Common.{Step, Log}
+use Rattle.crash_simulation.proofs.Common.{is_running, memory_in, stores_point, finishes_fence, Arrives, IsOnFragment, on_machine, Cleans, Some, LockName}
+use Rattle.crash_simulation.proofs.Common.{run_at, effects_of, Site, LocalStoresStep, System, IsSystem, ThreadGhost, InFragment, IsFrameWord, MarksPass}
+use Rattle.crash_simulation.proofs.Common.{FragmentsGoOn}
+use Rattle.crash_simulation.proofs.Common.{with_word, frame_at, read, same_there, places_of, ◌==◌, ap₂, now, typed, seen_effects, IsAtSomeMark}
+use Rattle.crash_simulation.proofs.Common.{steps_left, beyond, Contains, contains_none, contains_first, contains_cases, ne_eqb, eq-eqb, AreFencesCounted}
+use Rattle.crash_simulation.proofs.Common.{Changes, Contents}
+use Rattle.crash_simulation.proofs.Common.{HasView, IsElsewhere, IsLogEffect, IsNext, IsOwnWord, IsSectioned, IsSoon, IsLogged}
+use Rattle.crash_simulation.proofs.Common.{Plan}
 use Rattle.crash_simulation.proofs.Common.{IsWordOf, InPhase, LogInv, MayStore, PersistsThrough, Phase, Program, Stage, StoresWord, ThreadInv, Thread, home_of}
-use Rattle.crash_simulation.proofs.Common.{boundary_fences, config_of, ends_committed, forward_reaches, frame_word, frame_in, in_frame, is_bound, is_fence, begins_step}
+use Rattle.crash_simulation.proofs.Common.{boundary_fences, config_of, ends_committed, forward_reaches, frame_word, frame_in, in_frame, is_bound, is_fence}
+use Rattle.crash_simulation.proofs.Common.{begins_step}
 use Rattle.crash_simulation.proofs.Common.{is_point_store, is_store, last_store_after, log_stays, nothing_recorded, nothing_released, on_fragment, one_effect}
-use Rattle.crash_simulation.proofs.Common.{recorded_in, stays, steps_keep, PassesMark, Stays, marks_are_bounded, most_ahead, entry_ahead, is_clean, same_or_other}
-use Rattle.crash_simulation.proofs.Common.{framed_of, assigned_is_apart, IsReady, to_assign, to_enter, Action, Node, Seen, IsFrameFlushed, same_Some, last_position, word_at}
-use Rattle.crash_simulation.proofs.Common.{held_names_before, successors, End, frame_ahead, frame_reached, Graph, append-nil, IsFrameComing, NodeAt, IsNodeOf}
+use Rattle.crash_simulation.proofs.Common.{recorded_in, stays, steps_keep, PassesMark, Stays, marks_are_bounded, most_ahead, entry_ahead, is_clean}
+use Rattle.crash_simulation.proofs.Common.{same_or_other}
+use Rattle.crash_simulation.proofs.Common.{framed_of, assigned_is_apart, IsReady, to_assign, to_enter, Action, Node, IsFrameFlushed, same_Some}
+use Rattle.crash_simulation.proofs.Common.{last_position}
+use Rattle.crash_simulation.proofs.Common.{held_names_before, successors, End, frame_ahead, frame_reached, IsFrameComing, IsNodeOf}
 use Rattle.expr_code.specs.declared.home.Home.TheVariants.{InFrame}
 use Rattle.flow_graph.specs.Nodes.{Eval, Store, Test, Lock, Unlock}
 use Rattle.flow_graph.specs.Actions as a
@@ -359,7 +367,8 @@ module _ {y : System} {s : IsSystem y} {w : World} {h : ℕ} (site : Site y s w 
           (describes_over y b code c t.records goes.committed);
       graph_thread = graph_thread;
       walks = t.walks;
-      phase = subst (λ (phase : Phase). InPhase y v b code new p.on.on.hart graph_thread phase) (sym p.on.on.runs) (on_fragment Arrives mark.steps fragment_then);
+      phase = subst (λ (phase : Phase). InPhase y v b code new p.on.on.hart graph_thread phase) (sym p.on.on.runs) (on_fragment Arrives mark.steps
+          fragment_then);
       stored = stored_same passage only_clean (still_reached passage no_cleans reaches) (λ u i position since. since) (λ u i f un. absurd (true≢false un)) refl
           (step_durable y.runs.program w n sound) lasts
           (λ k position is low. recorded_in (subst (λ (l : Log). IsWordOf l n c.new k) (sym same_log) is)
@@ -400,7 +409,8 @@ module _ {y : System} {s : IsSystem y} {w : World} {h : ℕ} (site : Site y s w 
             (stores_point y.runs.program w (Step n) n) rest []) (sym no_rest)
             (same_fences (boundary_fences y.plan.log) _ _ [] (p.fence ∙ ap is_fence effect_is)
             (p.point ∙ (ap (is_point_store w.log n) effect_is ∙ ne_eqb _ _ (frame_not_point w.log n own))));
-        nears = begins_step (p.mark y.runs.marks (sym (mark.at.meets.marks ∙ ap (λ (q : Program). q.nodes) (code.is.of_program ∙ (s.own h site.below).program))));
+        nears = begins_step (p.mark y.runs.marks
+            (sym (mark.at.meets.marks ∙ ap (λ (q : Program). q.nodes) (code.is.of_program ∙ (s.own h site.below).program))));
         told = ap (λ (r : Record). is_some r.written) (sym (cond-true c.committed c.new c.old goes.committed));
         begins_told = λ on_time no. absurd (true≢false (sym no));
         last = λ k. refl;

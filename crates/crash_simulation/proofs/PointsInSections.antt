@@ -1,6 +1,7 @@
 -- A thread whose attempt goes on holds a mutex exactly where the record of its last boundary has a point.
 use Rattle.crash_simulation.proofs.Common.{◌≡◌, ◌≢◌, ℕ, List, sym, ◌∙◌, ap, arith, Bool, true, false, Option, Some, inl, inr, ⊎_elim, slice_get, true≢false}
-use Rattle.crash_simulation.proofs.Common.{holds_none, cases_Bool, FlowState, Plan, Code, Record, Describes, DescribesAs, between, inside, AbstractRun, kept_of, now_of}
+use Rattle.crash_simulation.proofs.Common.{holds_none, cases_Bool, FlowState, Plan, Code, Record, Describes, DescribesAs, between, inside, AbstractRun, kept_of}
+use Rattle.crash_simulation.proofs.Common.{now_of}
 use Rattle.crash_simulation.proofs.Common.{System, IsSystem, flat_of, IsGoing, held_now, held_before, holds_none_is, [], ◌∷◌, refl, GraphThread, IsNodeOf}
 use Rattle.crash_simulation.proofs.Common.{LockName, held_names_before, is_empty, lock_number, map}
 use Rattle.recovered_threads.proofs.Public.{none_before, none_if}

@@ -1,6 +1,7 @@
 -- What crates above may use of this crate's proofs, passed on from one place. Declares nothing.
 pub use Rattle.crash_simulation.proofs.AccountUpdates.{begun_by, counted_by, kept_same, pending_is}
-pub use Rattle.crash_simulation.proofs.AccountsAfterEvents.{Accounts, AreOnTime, Continues, GoesOn, begun_in, event_goes_on, not_running, not_there, own_by, step_of}
+pub use Rattle.crash_simulation.proofs.AccountsAfterEvents.{Accounts, AreOnTime, Continues, GoesOn, begun_in, event_goes_on, not_running, not_there, own_by}
+pub use Rattle.crash_simulation.proofs.AccountsAfterEvents.{step_of}
 pub use Rattle.crash_simulation.proofs.AccountsAfterEvents.{life_begins, life_carried, life_goes_on, none_begins, steps_join, worlds_join}
 pub use Rattle.crash_simulation.proofs.AccountsBeforeCommit.{none_more, released_by, start_counted}
 pub use Rattle.crash_simulation.proofs.BoundaryPassages.{ArePassed, FollowsBegun, chosen_here, chosen_none, going_ahead, passages_ahead, points_ahead, told_of}
@@ -20,7 +21,8 @@ pub use Rattle.crash_simulation.proofs.LoadFreeEnvironment.{placed}
 pub use Rattle.crash_simulation.proofs.LockCallSteps.{fragment, lock}
 pub use Rattle.crash_simulation.proofs.LocksAfterStep.{runs_held}
 pub use Rattle.crash_simulation.proofs.LocksAtCalls.{locks_it}
-pub use Rattle.crash_simulation.proofs.LoggedNodeSteps.{AssignsLogged, logged as is_logged, mark as logged_mark, own_word as logged_word, seen_is as logged_sees}
+pub use Rattle.crash_simulation.proofs.LoggedNodeSteps.{AssignsLogged, logged as is_logged, mark as logged_mark, own_word as logged_word}
+pub use Rattle.crash_simulation.proofs.LoggedNodeSteps.{seen_is as logged_sees}
 pub use Rattle.crash_simulation.proofs.LogWords.{point_settled, stored_for}
 pub use Rattle.crash_simulation.proofs.LongestAttempts.{AreFurthest}
 pub use Rattle.crash_simulation.proofs.MarksAtNodes.{IsPlainSet, IsUnlogged}

@@ -2,7 +2,7 @@
 use Rattle.crash_simulation.proofs.Common.{DescribesAs}
 use Rattle.crash_simulation.proofs.Common.{◌≡◌, ℕ, List, sym, ◌∙◌, ap, subst, true, Option, ◌<◌, [], Bool, if◌then◌else◌, map, holds_none, State, World}
 use Rattle.crash_simulation.proofs.Common.{durable_point, Memory, durable_number, between_is_kept, LogInv, Record, config_of, LogConfig, left_by_crash}
-use Rattle.crash_simulation.proofs.Common.{log_facts, ends_committed, Code, Describes, AllDescribe, points_settle, AbstractRun, kept_of, SettledIsKept}
+use Rattle.crash_simulation.proofs.Common.{log_facts, ends_committed, Code, AllDescribe, points_settle, AbstractRun, kept_of, SettledIsKept}
 use Rattle.crash_simulation.proofs.Common.{Simulates, System, IsSystem, thread_count, flat_of, ThreadGhost, ThreadInv, HasCommittedLog, record_kept}
 use Rattle.crash_simulation.proofs.StatesMatchSource.{free_holds_none, resumed, kept_matches, orderly}
 

@@ -6,7 +6,8 @@ use Rattle.crash_simulation.proofs.Common.{◌≤◌, true≢false, IsFrameFlush
 use Rattle.crash_simulation.proofs.Common.{word_at}
 use Rattle.ido_base.proofs.Public.{higher_all}
 use Rattle.crash_simulation.proofs.FrameWords.{anew_settled}
-use Rattle.crash_simulation.proofs.Common.{◌≡◌, ℕ, List, ◌∷◌, sym, ◌∙◌, ap, arith, subst, true, false, Option, Some, None, refl, suc, ◌<◌, [], ◌++◌, length, zero}
+use Rattle.crash_simulation.proofs.Common.{◌≡◌, ℕ, List, ◌∷◌, sym, ◌∙◌, ap, arith, subst, true, false, Option, Some, None, refl, suc, ◌<◌, [], ◌++◌, length}
+use Rattle.crash_simulation.proofs.Common.{zero}
 use Rattle.crash_simulation.proofs.Common.{replicate, slice_get, append-nil, map, Contains, option_map, length-replicate, none-some, same_Some, word_count}
 use Rattle.crash_simulation.proofs.Common.{Word, durable_value, word_of, Crash, Log, steps_of, IsWellFormedWorld, Hart, World, happens, after_event}
 use Rattle.crash_simulation.proofs.Common.{after_crash_of, resume_of, Slot, Phase, crashes_simulate, GraphThread, graph_after, AreCuts, at_boundary, NodeAt}
@@ -63,7 +64,8 @@ resting_ghost y late r n = record {
 }
 
 pub resting_thread : (y : System) (v : World) (b : AbstractRun y) (code : Code y.plan) (late : Bool) (r : Record) (n : ℕ) (graph_thread : GraphThread)
-    (log : LogInv code.thread.number nothing_recorded r v []) → DescribesAs y.plan code (kept_of y b) late r → (attempt_of b.config code.thread.number).done ≡ 0 →
+    (log : LogInv code.thread.number nothing_recorded r v []) → DescribesAs y.plan code (kept_of y b) late r →
+    (attempt_of b.config code.thread.number).done ≡ 0 →
     slice_get (now_of y b).graph_threads code.thread.number ≡ Some graph_thread →
     InPhase y v b code (resting_ghost y late r n) log.hart graph_thread log.hart.phase →
     (IsSectioned (resting_ghost y late r n) → (word : ℕ) → IsFrameWord v.log word → IsFrameFlushed y v b code (resting_ghost y late r n) log.hart word) →
@@ -178,7 +180,8 @@ module _ (y : System) (s : IsSystem y) (w : World) (stands : Simulates y s w) wh
 
   pub describe : AllDescribe y.plan s.codes (kept_of y crashed_run) (left_lates y s w stands) (left y s w stands)
   describe n below =
-      subst (λ (us : List ℕ). DescribesAs y.plan (s.codes.each n below) (flow_kept (flat_of y) b.origin us) (left_lates y s w stands n) (left y s w stands n)) (sym (append-nil b.schedule))
+      subst (λ (us : List ℕ). DescribesAs y.plan (s.codes.each n below) (flow_kept (flat_of y) b.origin us) (left_lates y s w stands n) (left y s w stands n))
+      (sym (append-nil b.schedule))
       (left_describes y s w stands n below)
 
   abbrev pub stands_after : Simulates y s after

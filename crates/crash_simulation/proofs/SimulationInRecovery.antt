@@ -28,7 +28,7 @@ use Rattle.crash_simulation.proofs.Common.{seen_by, graph_after, NodeAt, lowered
 use Rattle.crash_simulation.proofs.Common.{config, Record, side_of, IsInPhase, has_all, takes_one, is_kept_from, all_have, one_takes, TakesLocks, AwaitsOthers}
 use Rattle.crash_simulation.proofs.Common.{IsRunningAt, cleans_in, takes_step, waits_step, resumes_step, stopped_stay, IsNodeOf, Arrives, IsOnFragment}
 use Rattle.crash_simulation.proofs.Common.{on_machine, GoesOnFrom, unlocks_go_on, fragments_see_all, cores_see_all, locks_go_on, AreRecordsApart, Code}
-use Rattle.crash_simulation.proofs.Common.{ResumesAt, Describes, past_lock, at_chosen, AllDescribe, past_unlock, Gathers, HasGathered, AreGathered}
+use Rattle.crash_simulation.proofs.Common.{ResumesAt, past_lock, at_chosen, AllDescribe, past_unlock, Gathers, HasGathered, AreGathered}
 use Rattle.crash_simulation.proofs.Common.{AreGathering, Awaits, IsRecoveredHart, ResumesThread, same_there, same_or_other, takes_never_wait, waits_for_takers}
 use Rattle.crash_simulation.proofs.Common.{gathered_go_on, records_are_apart, gathered_are_kept, harts_go_on, kept_of, now_of, Site, TakesStand, WaitsStand}
 use Rattle.crash_simulation.proofs.Common.{StoppedStand, ResumesStand, SimulatesBut, Simulates, anybody, AreHeld, AreLocked, gathering, gathered, records_of}
@@ -349,7 +349,8 @@ module _ (y : System) (s : IsSystem y) (w : World) (h : ℕ) (stands : Simulates
       kept_alike =
           let r = (resumed_source y s b).resumed.invariant in
           let source = as_source y s b in
-          assigns_alike y.plan s.plan code.thread (now_of y b) (kept_of y b) (now b.config) b.config.kept source.now_matches source.kept_matches (now_good y s b)
+          assigns_alike y.plan s.plan code.thread (now_of y b) (kept_of y b) (now b.config) b.config.kept source.now_matches source.kept_matches
+          (now_good y s b)
           (run_keeps (flat_of y) b.config.kept b.config.uncommitted r.keeps)
           (subst (λ (k : ℕ). IsSameTo (flat_of y) (now b.config) (solo b.config.kept n k) n) rests.begun
           (solo_law (flat_of y) b.config.kept b.config.uncommitted n r.keeps r.runs r.hands).same)
@@ -418,7 +419,8 @@ module _ (y : System) (s : IsSystem y) (w : World) (h : ℕ) (stands : Simulates
           AreCounted y.plan code.thread graph_thread.at place ghost.new.framed → IsHere address → IsRunningThread y resumed b code ghost go.after graph_thread
       runs_by _ _ (at_chosen chosen) next may counted at = runs_at_core chosen next may counted at
       runs_by _ _ (past_lock from lock is own found locks) next may counted at =
-          runs_after next may from is own found (subst (λ (z : Action). Contains (successors z) graph_thread.at) (sym locks) (0, omega arith, refl)) (λ ends. cc)
+          runs_after next may from is own found (subst (λ (z : Action). Contains (successors z) graph_thread.at) (sym locks) (0, omega arith, refl))
+          (λ ends. cc)
           (locks_go_on y.plan code.thread from graph_thread.locals (lock_number graph_thread.locals lock) graph_thread.at
           (record { own = own; is = is; at = found; lock = lock; locks = locks; number = refl })) at
       runs_by _ _ (past_unlock from lock is own found unlocks holds) next may counted at =

@@ -5,7 +5,8 @@ use Rattle.crash_simulation.proofs.Common.{◌≡◌, ℕ, List, sym, ◌∙◌,
 use Rattle.crash_simulation.proofs.Common.{Contains, cond-true, cond-false, none-some, Step, Log, IsWellFormedWorld, Hart, World, happens, after_event}
 use Rattle.crash_simulation.proofs.Common.{Outcome, moved, Effect, Slot, log_stays, get-set_same, GraphThread, contains_none, Config, attempt_of, steps_begun}
 use Rattle.crash_simulation.proofs.Common.{HasUnlocked, HasLocked, LogInv, Record, config_of, MovesTo, is_committed, Moves, LogIs, stays_committed, is_clean}
-use Rattle.crash_simulation.proofs.Common.{ExitPoint, Arrives, Gives, Ends, Keeps, Asks, Took, Code, Describes, DescribesAs, same_there, AbstractRun, kept_of, now_of}
+use Rattle.crash_simulation.proofs.Common.{ExitPoint, Arrives, Gives, Ends, Keeps, Asks, Took, Code, Describes, DescribesAs, same_there, AbstractRun, kept_of}
+use Rattle.crash_simulation.proofs.Common.{now_of}
 use Rattle.crash_simulation.proofs.Common.{System, Rests, ThreadGhost, GoesClean, IsBounded, ExitInv, HasStored, IsInAttempt, HasRecords, Computes, HasView}
 use Rattle.crash_simulation.proofs.Common.{IsFrameFlushed, IsFrameWord, IsOnItsWay, IsSectioned, LogView, frame_in, live_value, words_in, ℤ, AssignsAlike}
 use Rattle.crash_simulation.proofs.Common.{ExitOwes, FlowState, IsOwedAt, seen_by, the_core}
@@ -111,7 +112,8 @@ module _ (y : System) (b : AbstractRun y) (code : Code y.plan) (c : ThreadGhost)
   records_over h0 h1 h2 h3 = grind (arith, cond-true, none-some, true≢false)
 
   -- where one is
-  pub records_begin : c.committed ≡ false → DescribesAs y.plan code (kept_of y b) c.late c.old → Describes y.plan code (now_of y b) c.new → HasRecords y b code c sooner
+  pub records_begin : c.committed ≡ false → DescribesAs y.plan code (kept_of y b) c.late c.old →
+      Describes y.plan code (now_of y b) c.new → HasRecords y b code c sooner
   records_begin h0 h1 h2 = grind (arith, cond-false, true≢false)
 
   -- the record of a boundary that is taken as committed

@@ -103,8 +103,8 @@ pub data Nears (y : System) (w : World) (h : ℕ) (passes : Bool) (old new : ℕ
 abbrev pub IsTold : System → (node : ℕ) → (told : Bool) → Type 0
 IsTold y node told = (IsChosen y.plan.graph y.plan.boundaries node → told ≡ true) × (¬ (IsChosen y.plan.graph y.plan.boundaries node) → told ≡ false)
 
--- the step passes a mark exactly where a step of the source is begun, unless the thread is late, and stores the thread's point exactly where the steps become bound to that; what it
--- finishes of fences its boundary has no more ahead
+-- the step passes a mark exactly where a step of the source is begun, unless the thread is late, and stores the thread's point exactly where the steps
+-- become bound to that; what it finishes of fences its boundary has no more ahead
 pub record IsCounted (y : System) (w : World) (b : AbstractRun y) (h : ℕ) (begun : Bool) (old new : ThreadGhost) : Type 0 where
   pub late : new.late ≡ old.late
   pub marks : old.late ≡ false → passes_mark y.runs.marks y.runs.program w h ≡ begun
@@ -116,7 +116,8 @@ pub record IsCounted (y : System) (w : World) (b : AbstractRun y) (h : ℕ) (beg
   pub nears : Nears y w h (passes_mark y.runs.marks y.runs.program w h) old.before_mark new.before_mark
   -- what the kept record tells of a write stays, and is right of the node where the first step of an attempt is begun
   pub told : tells_write new ≡ tells_write old
-  pub begins_told : old.late ≡ false → begun ≡ true → steps_begun b.config h ≡ 0 → (node : ℕ) → node_of (now_of y b) h ≡ Some node → IsTold y node (tells_write old)
+  pub begins_told : old.late ≡ false → begun ≡ true → steps_begun b.config h ≡ 0 → (node : ℕ) →
+      node_of (now_of y b) h ≡ Some node → IsTold y node (tells_write old)
   -- a store is the last one then
   pub last : (word : ℕ) → new.last_stores word ≡ last_store_after y.runs.program w (Step h) h word (old.last_stores word)
   -- and an access the first one, if there was none

@@ -54,9 +54,3 @@ pub record IsResumableAs (wanted : Log) (flat : Flat) (object : Object) (marks :
 
 abbrev pub command_log : Log
 command_log = V2
-
-abbrev pub IsTranslated : Flat → Object → Marks → Cuts → Type 0
-IsTranslated flat object marks cuts = IsTranslatedAs command_log flat object marks cuts
-
-abbrev pub IsResumable : Flat → Object → Marks → Cuts → List (Vec Resume Global) → Type 0
-IsResumable flat object marks cuts table = IsResumableAs command_log flat object marks cuts table

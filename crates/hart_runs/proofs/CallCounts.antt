@@ -7,7 +7,8 @@ use Rattle.rv64_isa.specs.declared.object.Slot.{Slot}
 use Rattle.machine_model.specs.declared.phase.Phase.{Phase}
 use Rattle.rv64_isa.specs.Rows.{Effect, Calls, row}
 use Rattle.machine_model.specs.Machine.{Hart, World, reply_to}
-use Rattle.machine_model.specs.Schedule.{has_moved, is_running, completing, effect_at, is_mark, is_point_store, is_fence, passes_mark, stores_point, finishes_fence}
+use Rattle.machine_model.specs.Schedule.{has_moved, is_running, completing, effect_at, is_mark}
+use Rattle.machine_model.specs.Schedule.{is_point_store, is_fence, passes_mark, stores_point, finishes_fence}
 use Rattle.hart_runs.specs.Calls.{IsAtCall}
 use Rattle.hart_runs.proofs.Worlds.{effect_is}
 

@@ -14,7 +14,8 @@ use Rattle.ido_base.specs.Layout.{aligned, byte_number}
 use Rattle.log_schemes.specs.Layout.{in_range}
 use Rattle.rv64_isa.specs.declared.object.Slot.{Slot}
 use Rattle.rv64_isa.specs.Rows.{Effect, Continues, Loads, Stores, Cleans, Fences, Calls, row, next, written, load_result}
-use Rattle.machine_model.specs.Machine.{Hart, World, Outcome, moved, stuck, with_hart, access, applied, fenced, cleaned, drain_one, gone_on, happens, after_event}
+use Rattle.machine_model.specs.Machine.{Hart, World, Outcome, moved, stuck, with_hart, access, applied}
+use Rattle.machine_model.specs.Machine.{fenced, cleaned, drain_one, gone_on, happens, after_event}
 use Rattle.machine_model.proofs.Public.{get-set_same}
 use Rattle.code_runs.specs.ComputingRuns.{LocalConfig, config}
 use Rattle.code_runs.specs.CodeTraces.{MarkedEnvironment, Observation, Mark, Does, outside, marked, passed, IsTraceStep}

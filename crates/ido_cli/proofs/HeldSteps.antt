@@ -14,7 +14,7 @@ use Rattle.flow_graph.specs.Nodes.{Graph}
 use Rattle.flow_graph.proofs.Public.{found_in, lowered_threads}
 use Rattle.thread_code.specs.Plans.{Plan, IsPlan, Thread, IsThread, home_of_colour}
 use Rattle.rv64_codegen.proofs.Public.{few_nodes, held_sets, held_there}
-use Rattle.flat_compile.specs.TranslatedForms.{IsTranslated}
+use Rattle.flat_compile.specs.TranslatedForms.{IsTranslatedAs, command_log}
 use Rattle.ido_cli.specs.links.Regions.{HasSets, HaveSets}
 use Rattle.ido_cli.proofs.NodeLines.{parts_many}
 
@@ -88,7 +88,7 @@ with_sets : (p : Plan) (held : List (List Held)) → IsPlan p → AreAllSetsOf p
 with_sets p held plan are = subst (λ (sets : List (List Held)). IsPlan (record p { held = sets })) (same_sets p.flat p.held held plan.held are) plan
 
 pub have_sets : (x : f.Flat) (object : Object) (marks : Marks) (cuts : Cuts) (held : List (List Held)) (parts : List Part) →
-    IsTranslated x object marks cuts → AreAllSetsOf x held → parts ≡ (lowered x).threads → HaveSets held parts
+    IsTranslatedAs command_log x object marks cuts → AreAllSetsOf x held → parts ≡ (lowered x).threads → HaveSets held parts
 have_sets x object marks cuts held parts t are parts_are thread part at =
     let p : Plan = t.system.plan in
     let sets : AreAllSetsOf p.flat held = subst (λ (y : f.Flat). AreAllSetsOf y held) (sym t.of_flat) are in

@@ -17,7 +17,7 @@ use Rattle.flow_graph.specs.IdempotentCuts.{Boundaries}
 use Rattle.flow_graph.specs.Lowering.{table_of, lowered, part, parts, thread_count, thread_nodes, threads_nodes}
 use Rattle.flow_graph.specs.Nodes.{Graph, Node, graph_of, node_of}
 use Rattle.flow_graph.proofs.Public.{length-thread_nodes, lowered_threads}
-use Rattle.flat_compile.specs.TranslatedForms.{IsTranslated}
+use Rattle.flat_compile.specs.TranslatedForms.{IsTranslatedAs, command_log}
 use Rattle.ido_cli.specs.Regions.{Straight, is_chosen, least_lines, line_at, lines_from, node_line, node_lines, regions_of, thread_line}
 
 regroup : (a b c d e : List ℕ) → a ++ b ++ c ++ d ++ e ≡ a ++ (b ++ c ++ d ++ e)
@@ -125,7 +125,7 @@ part_inside x g k own is below at =
 
 -- ---- Of each node it is said whether a boundary stands before it
 
-pub cuts_long : (x : f.Flat) (object : Object) (marks : Marks) (cuts : Cuts) → IsTranslated x object marks cuts →
+pub cuts_long : (x : f.Flat) (object : Object) (marks : Marks) (cuts : Cuts) → IsTranslatedAs command_log x object marks cuts →
     length cuts.before.items ≡ length (lowered x).nodes
 cuts_long x object marks cuts t =
     sym (ap (λ (b : Boundaries). length b.before) t.at_cuts) ∙ t.is.plan.at_writes.before_count

@@ -203,8 +203,8 @@ pub record LoadAnswer (log : Log) (rounds seed : ℕ) (status : ℕ) (output : L
 abbrev pub file_in : i.Image → Image
 file_in image = record { words = image.words.items; kept = lives_in image.lives.earlier.items image.lives.schedule.items }
 
--- What an input of an image is answered: its first fault, or what is said of a run that goes on from it. That run is never stuck, its delays are bounded, and no
--- hart waits that takes its locks, whoever wrote the image.
+-- What an input of an image is answered: its first fault, or what is said of a run that goes on from it. That run is never stuck, its delays are bounded,
+-- and no hart waits that takes its locks, whoever wrote the image.
 pub data RecoverAnswer (turns : ℕ) (input : List ℕ) (status : ℕ) (output : List ℕ) : Type 0 where
   no_image : (error : ImageError) → IsImageAnswer Fourth input (Err error) → status ≡ 6 → image_line error ≡ Some output →
       RecoverAnswer turns input status output

@@ -109,7 +109,8 @@ module _ (machines : MachinesResume) (records : MachinesRecord) (y : System) (s 
   unshared : (threads : ℕ) → threads ≡ length y.runs.program → (lock : ℕ) → IsUnshared (logs_of log left.logs) threads lock
   unshared threads is lock =
       subst (λ (ls : List ℕ). IsUnshared (logs_of log ls) threads lock) (sym logs_are)
-      (subst (λ (k : ℕ). IsUnshared (logs_of log (logs_left words)) k lock) (sym (is ∙ s.count)) (are_unshared y s (world c events) stands on_time log logs lock))
+      (subst (λ (k : ℕ). IsUnshared (logs_of log (logs_left words)) k lock) (sym (is ∙ s.count))
+      (are_unshared y s (world c events) stands on_time log logs lock))
 
   scheduled : sum_by length kept ≤ MOST_STEPS → AreSchedules (flat_of y) (start (flat_of y)) 0 left.lives
   scheduled most = merged_lives (flat_of y) (start (flat_of y)) 0 kept (omega (arith, most)) (records y s events).kept

@@ -962,7 +962,8 @@ module _ (y : System) (s : IsSystem y) (w : World) (stands : Simulates y s w) (o
   pub are_unshared : (lock : ℕ) → IsUnshared logs (thread_count y) lock
   are_unshared lock one other apart within here there =
       let below : one < thread_count y = omega (arith, apart, within) in
-      let same = records_are_apart y.plan s.codes kept (lates y s w stands) (left y s w stands) s.plan (orderly y s stands.abstract) (left_describes y s w stands)
+      let same = records_are_apart y.plan s.codes kept (lates y s w stands) (left y s w stands) s.plan (orderly y s stands.abstract)
+      (left_describes y s w stands)
       one other lock below within
       (ap (λ (locks : List ℕ). has_lock locks lock) (sym (locks_logged one below)) ∙ here)
       (ap (λ (locks : List ℕ). has_lock locks lock) (sym (locks_logged other within)) ∙ there) in

@@ -7,8 +7,6 @@ use Rattle.compiler_correctness.specs.Translations.{Translation}
 use Rattle.crash_images.specs.Contents.{Contents, State, contents}
 use Rattle.machine_model.specs.Schedule.{all_lives}
 use Rattle.run_scripts.specs.Runs.{runs_of}
-use Rattle.crash_images.specs.ImageEncoder.{spelling}
-use Rattle.crash_images.specs.declared.version.ImageVersion.TheVariants.{Third}
 
 -- what a crash after the events leaves: the durable words of the variables and of the logs, and the kept steps
 abbrev pub left_by : Translation → List Event → left.Image
@@ -17,9 +15,6 @@ left_by c events = file_of c (image_of c events)
 -- a file of a source: the words of its variables, those of its logs, and of each life the runs of the kept steps
 abbrev pub file_contents : (source : List ℕ) → Translation → (file : left.Image) → Contents
 file_contents source c file = contents source (take (variable_words c) file.words) (drop (variable_words c) file.words) (all_lives file.kept)
-
-abbrev pub file_text : (source : List ℕ) → Translation → (file : left.Image) → List ℕ
-file_text source c file = spelling Third (file_contents source c file)
 
 -- what stands after the source
 abbrev pub file_state : Translation → (file : left.Image) → State

@@ -18,7 +18,8 @@ use Rattle.machine_model.specs.declared.phase.Phase.{Phase}
 use Rattle.machine_model.specs.declared.phase.Phase.TheVariants.{Take, Wait, Resume, Run, Done, Ended}
 use Rattle.rv64_isa.specs.Rows.{Effect, Continues, Loads, Stores, Cleans, Fences, Calls, row, read, next}
 use Rattle.rv64_isa.specs.Programs.{fetched}
-use Rattle.machine_model.specs.Machine.{Hart, World, Outcome, moved, with_hart, with_holder, drain_one, access, fenced, acquired, released, ended, called, applied}
+use Rattle.machine_model.specs.Machine.{Hart, World, Outcome, moved, with_hart, with_holder, drain_one}
+use Rattle.machine_model.specs.Machine.{access, fenced, acquired, released, ended, called, applied}
 use Rattle.machine_model.specs.Machine.{executed, hart_step, taken, waited, taking_from, record_of, over_after, done_if_over, run_step, phase_step, stepped}
 use Rattle.machine_model.specs.Machine.{happens, after_event, after_crash_of}
 use Rattle.machine_model.specs.Frames.{IsWellFormedWorld}

@@ -139,7 +139,8 @@ module _ (p : Plan) (codes : Codes p) (kept : FlowState) (w : World) (describe :
 
 pub durable_points_settle : DurablePointsSettle
 durable_points_settle p codes kept w orderly describe =
-    points_settle w.log p codes kept (lates p codes kept w describe) (records p codes kept w describe) w.words orderly (records_describe p codes kept w describe)
+    points_settle w.log p codes kept (lates p codes kept w describe) (records p codes kept w describe) w.words orderly
+    (records_describe p codes kept w describe)
     (points p codes kept w describe)
 
 pub crashes_recover : CrashesRecover

@@ -35,7 +35,8 @@ resumed_there p code node _ address own (at_chosen chosen) = c.at_chosen node ow
 resumed_there p code node _ address own (past_lock from lock is from_own at locks) = c.past_lock from lock node is from_own at locks
 resumed_there p code node _ address own (past_unlock from lock is from_own at unlocks holds) = c.past_unlock from lock node is from_own at unlocks holds
 
-module _ (program : List (List Slot)) {p : Plan} (code : Code p) {w : World} {r : Record} (logs : p.log ≡ w.log) (ready : IsRecoveredHart w code.thread.number r) (i : runs.IsInPhase w code.thread.number Resume) where
+module _ (program : List (List Slot)) {p : Plan} (code : Code p) {w : World} {r : Record} (logs : p.log ≡ w.log)
+    (ready : IsRecoveredHart w code.thread.number r) (i : runs.IsInPhase w code.thread.number Resume) where
   abbrev h : ℕ
   h = code.thread.number
 
@@ -73,7 +74,8 @@ module _ (program : List (List Slot)) {p : Plan} (code : Code p) {w : World} {r 
   ready_again_at : (node : ℕ) → IsNodeOf code.thread node → (seen : Seen) (view : LogView) (owed : ℤ) → r.live ≡ code.is.places.kept node →
       IsReady p code.thread node seen view owed r.registers → IsReady p code.thread node seen (view_resumed r view) owed step.after.registers
   ready_again_at node own seen view owed is may =
-      ready_again p code.thread node seen view (view_resumed r view) owed r.registers step.after.registers (code.is.places.kept node) (code.is.kept node own) may
+      ready_again p code.thread node seen view (view_resumed r view) owed r.registers step.after.registers (code.is.places.kept node)
+      (code.is.kept node own) may
       on_record (λ local word counted home. refl) (same (code.is.places.kept node) is)
 
   -- and so are the words of the frame on which it counts

@@ -122,7 +122,8 @@ GatheredAreKept = (p : Plan) (codes : Codes p) (kept : FlowState) (w : World) (l
 
 -- a hart that is ready to go on holds exactly the locks that its thread holds in the kept state
 abbrev pub ReadyAsKept : Type 0
-ReadyAsKept = (p : Plan) (code : Code p) (kept : FlowState) (w : World) (late : Bool) (r : Record) → IsPlan p → IsOrderly p kept → DescribesAs p code kept late r →
+ReadyAsKept = (p : Plan) (code : Code p) (kept : FlowState) (w : World) (late : Bool) (r : Record) → IsPlan p → IsOrderly p kept →
+    DescribesAs p code kept late r →
     IsRecoveredHart w code.thread.number r → length w.holders ≡ length kept.holders →
     (lock : ℕ) → (slice_get w.holders lock ≡ Some (Some code.thread.number)) ↔ (slice_get kept.holders lock ≡ Some (Some code.thread.number))
 

@@ -128,8 +128,8 @@ pub data Describes (p : Plan) (code : Code p) (kept : FlowState) (r : Record) : 
   between : holds_none kept.holders code.thread.number ≡ true → r.point ≡ 0 → Describes p code kept r
   inside : holds_none kept.holders code.thread.number ≡ false → IsInside p code kept r → Describes p code kept r
 
--- the thread stands at the node after a logged assignment, and its record is one of the boundary before that: where it is resumed it stores again what its local
--- has. So it is of a record whose number isn't the one that the assignment gives: no run leaves such a one
+-- the thread stands at the node after a logged assignment, and its record is one of the boundary before that: where it is resumed it stores again what its
+-- local has. So it is of a record whose number isn't the one that the assignment gives: no run leaves such a one
 pub record IsPastAssignment (p : Plan) (code : Code p) (kept : FlowState) (r : Record) : Type 0 where
   pub holds : holds_none kept.holders code.thread.number ≡ false
   pub graph_thread : GraphThread

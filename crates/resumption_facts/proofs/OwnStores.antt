@@ -4,7 +4,7 @@ use Rattle.crash_simulation.specs.InstructionSteps.{AtPastNow}
 use Rattle.std.proofs.Common.{Bool, false}
 use Rattle.recovered_threads.specs.RecordDescriptions.{DescribesAs}
 use Rattle.std.proofs.Common.{◌≡◌, ◌≢◌, ◌⊎◌, inl, inr, refl, ℕ, ℤ, ◌+◌, ◌*◌, ◌<◌, ◌≤◌, suc, List, [], ◌∷◌, ◌++◌, ap, sym, ◌∙◌, subst}
-use Rattle.std.proofs.Common.{Bool, true, false, Some, is_some, option_map, slice_get, if◌then◌else◌}
+use Rattle.std.proofs.Common.{true, Some, is_some, option_map, slice_get, if◌then◌else◌}
 use Rattle.std.proofs.lemmas.Bool.{true≢false}
 use Rattle.std.proofs.lemmas.Option.{same_Some}
 use Rattle.ido_base.specs.Layout.{line_bytes, variable_lines, variables_base}

@@ -204,5 +204,6 @@ registers_are_resumed machines go_on y s events h i =
       resumes = goes y s w stands h i on_time;
       registers = has_registers y s w stands h i on_time;
       few = (ready y s w stands h i).log.log.follows.new_is.live;
-      needs_no_others = needs_no_others go_on y s h (below y s w stands h i) (kept_of y stands.abstract) (stands.ghosts h).new (goes y s w stands h i on_time).told;
+      needs_no_others = needs_no_others go_on y s h (below y s w stands h i) (kept_of y stands.abstract) (stands.ghosts h).new
+          (goes y s w stands h i on_time).told;
     }

@@ -18,7 +18,7 @@ use Rattle.flow_graph.proofs.Public.{found_in}
 use Rattle.region_attempts.proofs.Public.{StoresHere, is_there}
 use Rattle.thread_code.specs.Plans.{IsLogged, IsNodeOf, held_names_before}
 use Rattle.thread_runs.specs.CodeFragments.{ExitPoint}
-use Rattle.recovered_threads.specs.RecordDescriptions.{Code, Describes}
+use Rattle.recovered_threads.specs.RecordDescriptions.{Code}
 use Rattle.recovered_threads.proofs.Public.{holds_none_is, none_before}
 use Rattle.crash_simulation.specs.AbstractRuns.{AbstractRun, kept_of, now_of}
 use Rattle.crash_simulation.specs.Systems.{System, IsSystem, flat_of}

@@ -149,7 +149,8 @@ module _ {y : System} {s : IsSystem y} {w : World} {h : ℕ} (site : Site y s w 
         (ap word_number (sym f.own.is) ∙ same_word value (in_log value i))
 
     -- it has no point, or resumes the hart there
-    resumed_there : c.late ≡ false → IsToFrame site address bytes → live_at w.words (point_at w.log n) ≢ 0 → t.log.hart.pc ≡ resume_of (live_at w.words (point_at w.log n))
+    resumed_there : c.late ≡ false → IsToFrame site address bytes → live_at w.words (point_at w.log n) ≢ 0 →
+        t.log.hart.pc ≡ resume_of (live_at w.words (point_at w.log n))
     resumed_there on_time to some =
         let live : live_at w.words (point_at w.log n) ≡ c.new.point =
         (ends w.log n c.old c.new (config_of w t.log.hart c.rest) t.log.log to.over).point.live in

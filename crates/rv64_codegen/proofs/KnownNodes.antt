@@ -1,20 +1,20 @@
 -- What is known of a node of a plan's thread, and whether it is a logged assignment.
-use Rattle.std.proofs.Common.{◌≡◌, ◌≢◌, ◌⊎◌, inl, inr, ℕ, ◌<◌, List, [], ◌∷◌, length, refl, ap, arith, sym, ◌∙◌, subst, Bool, true, false, Some, None}
+use Rattle.std.proofs.Common.{◌≡◌, ◌≢◌, ℕ, ◌<◌, List, length, ap, sym, ◌∙◌, subst, Bool, true, false, Some}
 use Rattle.std.specs.Prelude.{slice_get}
-use Rattle.std.proofs.lemmas.Option.{same_Some, slice_get_within}
+use Rattle.std.proofs.lemmas.Option.{same_Some}
 use Rattle.ido_base.specs.declared.place.Place.{Place}
 use Rattle.ido_ints.specs.declared.kinds.Kind.{Kind}
 use Rattle.c_tree.specs.Exprs as e
 use Rattle.flow_graph.specs.Nodes.{Action, Eval, Store, Test, Lock, Unlock, End, Node, Graph}
 use Rattle.flow_graph.specs.Liveness.{NodeAt}
 use Rattle.expr_code.specs.EvaluationCode.{home_of}
-use Rattle.expr_code.specs.declared.home.Home.TheVariants.{InRegister, InFrame}
+use Rattle.expr_code.specs.declared.home.Home.TheVariants.{InFrame}
 use Rattle.thread_code.specs.Plans.{Assigns, IsLogged, IsNodeOf, IsPlan, IsThread, Plan, Thread}
 use Rattle.flow_graph.specs.Actions.{Seen}
 use Rattle.thread_code.specs.RegistersAtNodes.{IsPendingIn}
 use Rattle.std.proofs.lemmas.Bool.{true≢false}
 use Rattle.rv64_codegen.proofs.LocalRegisters.{framed, word_of}
-use Rattle.rv64_codegen.proofs.Nodes.{EvalKnown, Known, node_known}
+use Rattle.rv64_codegen.proofs.Nodes.{Known, node_known}
 
 -- the local that an action assigns, or any
 abbrev local_of : Action → ℕ

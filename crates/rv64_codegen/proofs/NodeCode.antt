@@ -1,7 +1,7 @@
 -- The code of one node is its piece's.
 use Rattle.std.proofs.Common.{◌≡◌, ◌↔◌, ℕ, ◌+◌, ◌-◌, ◌*◌, ◌<◌, ◌≤◌, List, [], ◌∷◌, ◌++◌, length, map, refl, ap, arith, sym, ◌∙◌, subst, Bool, true, false}
 use Rattle.std.proofs.Common.{Option, Some, None, if◌then◌else◌}
-use Rattle.std.specs.Prelude.{slice_get, slice_index_or, pos, sum_by, ℤ}
+use Rattle.std.specs.Prelude.{slice_index_or, pos, sum_by, ℤ}
 use Rattle.std.proofs.lemmas.List.Sums.{sum_by-append}
 use Rattle.std.proofs.lemmas.Option.{none-some, same_Some, slice_get_within}
 use Rattle.ido_base.specs.declared.place.Place.{Place}
@@ -10,7 +10,7 @@ use Rattle.ido_ints.specs.declared.kinds.Kind.TheVariants.{UnsignedLong}
 use Rattle.ido_ints.specs.TypedNumbers.{typed}
 use Rattle.expr_code.specs.EvaluationCode.{HomeCarries, home_of}
 use Rattle.expr_code.specs.declared.home.Home.{Home}
-use Rattle.expr_code.specs.declared.home.Home.TheVariants.{InRegister, InFrame}
+use Rattle.expr_code.specs.declared.home.Home.TheVariants.{InFrame}
 use Rattle.ido_ints.specs.Operators.{is_zero}
 use Rattle.ido_ints.specs.Reduction.{reduced}
 use Rattle.c_tree.specs.Exprs as e
@@ -42,7 +42,6 @@ use Rattle.thread_code.specs.NodeCodeEffects.{Performs, SetsLogged}
 use Rattle.thread_code.specs.NodeCodeEffects.{GoesOnAfter, view_after}
 use Rattle.thread_code.specs.Programs.{IsAtOwnCore, IsAtOwnNode, IsPlainCall, IsCalling, IsCleaning, IsNodeCode, IsWithin, action_nodes, boundary_count}
 use Rattle.thread_code.specs.Programs.{names_kept}
-use Rattle.rv64_codegen.specs.Evaluations.{IsEvaluation}
 use Rattle.rv64_codegen.specs.ThreadPieces.{Choices, GoesTo, IsComputedBefore, computed, nothing, IsGuard, IsSetting, in_register, in_section, outside}
 use Rattle.rv64_codegen.specs.ThreadPieces.{IsDoing, MayEnter}
 use Rattle.rv64_codegen.specs.ThreadPieces.{boundary_at, boundary_before, opens_section}
@@ -397,7 +396,8 @@ module _ {p : Plan} {t : Thread} {c : Choices} (places : Places) (it : PlacedNod
             st g owed may
         stored (outside other there unlogged st) g may = absurd (unlogged logged)
 
-        by : IsDoing p t c node (Eval (e.ToLocal assigns.place local assigns.kind) assigns.assigned assigns.next) does goes → IsReady p t node seen view owed x →
+        by : IsDoing p t c node (Eval (e.ToLocal assigns.place local assigns.kind) assigns.assigned assigns.next) does goes →
+            IsReady p t node seen view owed x →
             SetsLogged p t places (entrance s seen view owed x) word local owed assigns.next
         by d (to_enter none h) = absurd (none logged)
         by d (to_assign own_logged may) =

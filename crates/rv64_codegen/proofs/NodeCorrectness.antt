@@ -27,17 +27,16 @@ use Rattle.rv64_isa.specs.Rows.{Stores, row, read}
 use Rattle.rv64_link.specs.LinkedCode.{IsInstructionAt}
 use Rattle.memory_layout.specs.Roles as roles
 use Rattle.memory_layout.specs.Roles.{is_temporary, is_local}
-use Rattle.boundary_code.specs.Boundaries.{Boundary, IsOnSide, side_after}
+use Rattle.boundary_code.specs.Boundaries.{Boundary, IsOnSide}
 use Rattle.operator_code.specs.ComputingCode.{AreRegisters}
 use Rattle.operator_code.proofs.Public.{equal_by}
 use Rattle.code_runs.specs.CodeTraces.{Program, MarkedEnvironment, Meets, Observation, Does, Mark, GoesThrough, marked}
 use Rattle.expr_code.specs.EvaluationCode.{Homes, Source, home_of, is_home}
 use Rattle.expr_code.proofs.Public.{or_right}
-use Rattle.flow_graph.specs.Nodes.{Action, Eval, Store, Test, Lock, Unlock, Node, Graph, successors}
+use Rattle.flow_graph.specs.Nodes.{Action, Eval, Store, Test, Lock, Unlock, successors}
 use Rattle.flow_graph.specs.Actions as a
 use Rattle.flow_graph.specs.Actions.{Seen, number_in}
 use Rattle.flow_graph.specs.Lowering.{target_locals}
-use Rattle.flow_graph.specs.Liveness.{NodeAt}
 use Rattle.node_code.specs.Pieces.{store_observations, boundary_observations, LeavesRegisters}
 use Rattle.node_code.specs.Pieces.{Asks, IsStorePiece, Makes, Locks, Unlocks, IsEndPiece, takes, gives, ends}
 use Rattle.node_code.specs.Sites.{Site, label_of}

@@ -148,7 +148,8 @@ module _ (p : Plan) (plan : IsPlan p) where
   pub chosen_writes : (node : ℕ) (is : Node) → NodeAt p.graph node is → IsChosen p.graph p.boundaries node →
       IsStoring is.action ⊎ ((locals_of p.log ≡ Frame) × ((local : ℕ) × Assigns p node local))
   chosen_writes node is at c =
-      ⊎_elim (λ u. absurd (c.free u)) (λ rest. ⊎_elim (λ w. inl (writes_here node is at w)) (λ a. inr (a.logged.frame, (a.logged.local, a.logged.assigns))) rest) (plan.at_writes.before node c.stands)
+      ⊎_elim (λ u. absurd (c.free u)) (λ rest.
+      ⊎_elim (λ w. inl (writes_here node is at w)) (λ a. inr (a.logged.frame, (a.logged.local, a.logged.assigns))) rest) (plan.at_writes.before node c.stands)
 
   -- where locals stand in registers it makes a store
   pub chosen_stores : locals_of p.log ≡ Registers → (node : ℕ) (is : Node) → NodeAt p.graph node is → IsChosen p.graph p.boundaries node → IsStoring is.action

@@ -10,7 +10,8 @@ use Rattle.flow_graph.specs.Actions.{Seen}
 use Rattle.flow_graph.specs.IdempotentCuts.{IsStoreNode, stores}
 use Rattle.flow_graph.specs.Liveness.{NodeAt}
 use Rattle.thread_code.specs.Plans.{Plan, Thread, IsKept, IsLogged, of_local, of_address, of_value, of_entry, of_word, of_number}
-use Rattle.thread_code.specs.RegistersAtNodes.{Enters, HasLowBytes, HasPending, IsFrameOn, IsFrameOnAtCore, IsPendingIn, IsReady, LogView, MayAssign, by_assignment, by_entry, frame_loads, to_assign, to_enter}
+use Rattle.thread_code.specs.RegistersAtNodes.{Enters, HasLowBytes, HasPending, IsFrameOn, IsFrameOnAtCore, IsPendingIn, IsReady}
+use Rattle.thread_code.specs.RegistersAtNodes.{LogView, MayAssign, by_assignment, by_entry, frame_loads, to_assign, to_enter}
 use Rattle.thread_code.specs.Laws.{EntersAgain, IsReadyAgain, ReadyWhatever}
 use Rattle.ido_ints.specs.TypedNumbers.{Typed}
 use Rattle.boundary_code.specs.Boundaries.{IsOnSide}
@@ -26,7 +27,8 @@ low_bytes_on x y r k number same h = record {
 }
 
 -- what stands in a home stands there in another view, too, where its register or its word is as it was
-carries_on : (view other : LogView) (x y : List ℕ) (home : Home) (v : Typed) → ((register : ℕ) → home ≡ InRegister register → read y register ≡ read x register) →
+carries_on : (view other : LogView) (x y : List ℕ) (home : Home) (v : Typed) →
+    ((register : ℕ) → home ≡ InRegister register → read y register ≡ read x register) →
     ((word : ℕ) → home ≡ InFrame word → other.frame word ≡ view.frame word) → HomeCarries (frame_loads view) x home v → HomeCarries (frame_loads other) y home v
 carries_on view other x y (InRegister register) v same on c = record { held = c.held; form = same register refl ∙ c.form }
 carries_on view other x y (InFrame word) v same on c = record { held = c.held; answer = ap (λ (n : ℕ). Some n) (on word refl) ∙ c.answer }

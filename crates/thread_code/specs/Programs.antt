@@ -116,7 +116,8 @@ module _ (p : Plan) (t : Thread) (c : Places) where
   -- the code of one node
   pub record IsNodeCode (node : ℕ) (is : Node) : Type 0 where
     -- before the node's code stands a boundary or nothing
-    pub chosen : IsChosen p.graph p.boundaries node → (m : Entrance) → m.node ≡ node → IsAtOwnNode m → IsAnsweredAt p t c m is.action → IsOwed p t c m is.action →
+    pub chosen : IsChosen p.graph p.boundaries node → (m : Entrance) → m.node ≡ node → IsAtOwnNode m → IsAnsweredAt p t c m is.action →
+        IsOwed p t c m is.action →
         BoundaryBefore p t c m is.action
     pub plain : ¬ (IsChosen p.graph p.boundaries node) → c.entry node ≡ c.core node
     -- the code does what the node does, where loads of what that reads are answered; from its core on a logged assignment reads nothing

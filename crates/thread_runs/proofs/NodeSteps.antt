@@ -335,7 +335,8 @@ module _ {p : Plan} {t : Thread} {own : Program} (code : IsThreadCode p t own) (
     begins (a.Sets local number next) eq may =
         let does = performs (a.Sets local number next) eq in
         sets local number next (assigns_local p node is seen local number next found eq) (marks (a.Sets local number next) eq refl)
-        (follows (a.Sets local number next) next eq refl) does.0 (home_of t.locals local) (held_names_before p t node) (record { at_home = refl; holding = refl }) does.1 may
+        (follows (a.Sets local number next) next eq refl) does.0 (home_of t.locals local) (held_names_before p t node)
+        (record { at_home = refl; holding = refl }) does.1 may
     begins (a.Owes store next) eq may =
         at_mark (a.Owes store next) (stage_after p t c node seen view registers (a.Owes store next)) [] refl (marks (a.Owes store next) eq refl)
         (performs (a.Owes store next) eq).1 (follows (a.Owes store next) next eq refl) tt tt tt (λ effect k. tt) refl

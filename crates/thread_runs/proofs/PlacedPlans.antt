@@ -107,7 +107,8 @@ no_unlock p t node logged (unlocks x lock next at is) =
     not_both x.action lock next own.place logged.local own.kind own.assigned own.next is (ap (λ (n : Node). n.action) same ∙ own.action)
 
 recorded : (p : Plan) (t : Thread) → IsPlan p → IsThread p t → (node : ℕ) → IsNodeOf t node → IsLogged p t node → IsChosen p.graph p.boundaries node
-recorded p t plan is node own logged = record { stands = plan.at_writes.assignments node (record { thread = t; of = is; own = own; logged = logged }); free = no_unlock p t node logged }
+recorded p t plan is node own logged =
+    record { stands = plan.at_writes.assignments node (record { thread = t; of = is; own = own; logged = logged }); free = no_unlock p t node logged }
 
 -- ---- Nodes
 

@@ -264,7 +264,8 @@ NodesBegin = (p : Plan) (t : Thread) (program : List (List Slot)) (own : Program
 
 -- at the core of a logged assignment, whatever number it owes its local: it is at the mark, by which it stores that number
 abbrev pub AssignmentsBegin : Type 0
-AssignmentsBegin = (p : Plan) (t : Thread) (program : List (List Slot)) (own : Program) (code : IsThreadCode p t own) (w : World) (h : ℕ) (s : MarkedEnvironment)
+AssignmentsBegin = (p : Plan) (t : Thread) (program : List (List Slot)) (own : Program) (code : IsThreadCode p t own) (w : World) (h : ℕ)
+    (s : MarkedEnvironment)
     (node : ℕ) (seen : Seen) (view : LogView) (owed : ℤ) (registers : List ℕ) (logged : IsLogged p t node) (word : ℕ) →
     home_of t.locals logged.local ≡ InFrame word → IsPlaced p t code.places w.log (length w.harts) → Meets code.places.program s → Agrees program w h s →
     ReadsOwn w.log t.number s → IsApart s word 8 → IsAtCore p t code.places w h node seen view owed registers →

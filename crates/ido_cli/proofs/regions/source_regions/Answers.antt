@@ -5,7 +5,7 @@ use Rattle.c_tree.specs.declared.flat.Flat.{Flat}
 use Rattle.flow_graph.specs.IdempotentCuts.{boundaries_of}
 use Rattle.flow_graph.specs.Lowering.{lowered}
 use Rattle.flow_graph.specs.Nodes.{Graph, graph_of}
-use Rattle.flat_compile.specs.TranslatedForms.{IsTranslated, command_log}
+use Rattle.flat_compile.specs.TranslatedForms.{IsTranslatedAs, command_log}
 use Rattle.lock_discipline.specs.HeldSetsByStep.{AreAllSetsOf}
 use Rattle.ido_compile.specs.declared.error.CompileError.TheVariants as error
 use Rattle.ido_compile.proofs.Public.{by_error}
@@ -77,7 +77,7 @@ returns c =
     let b = boundaries_of made.cuts in
     let same = c.in_ok-analysis.ensures.of_flat in
     let flat = flat_of c.in_ok-flat.flat in
-    let is = subst (λ (x : Flat). IsTranslated (flat_of x) made.object made.marks made.cuts) same c.in_ok-translated.ensures.translated in
+    let is = subst (λ (x : Flat). IsTranslatedAs command_log (flat_of x) made.object made.marks made.cuts) same c.in_ok-translated.ensures.translated in
     let graph : graph_of analysis.graph ≡ lowered flat =
     c.in_ok-analysis.ensures.answer.1.lowered ∙ ap (λ (x : Flat). lowered (flat_of x)) same in
     let told = subst (λ (g : Graph). AreTold c.args.least g stretches) graph

@@ -18,4 +18,5 @@ logged-requires-clause-within c =
 
 pub returns : goal.returns
 returns c =
-    c.logged.ensures ∙ ap (logged c.args.logs.now) (c.slot_at.ensures ∙ ap (slot_at c.args.log c.args.thread c.args.bank) (c.from.ensures ∙ c.register_slot.ensures.is))
+    c.logged.ensures ∙ ap (logged c.args.logs.now)
+    (c.slot_at.ensures ∙ ap (slot_at c.args.log c.args.thread c.args.bank) (c.from.ensures ∙ c.register_slot.ensures.is))
